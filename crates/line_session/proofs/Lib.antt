@@ -4,12 +4,13 @@ pub mod DrawLemmas
 pub mod GoingLemmas
 pub mod KeptLemmas
 pub mod ModeLemmas
+pub mod OnceLaws
 pub mod OneChangeLaws
 pub mod OneSearchLaws
-pub mod OnceLaws
 pub mod QueueViews
 pub mod ReadingLemmas
 pub mod SearchingLemmas
+pub mod SessionRunLaws
 pub mod ShowingLemmas
 pub mod StepLemmas
 pub mod TurnLemmas

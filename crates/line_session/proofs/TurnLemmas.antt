@@ -1,5 +1,5 @@
 -- Facts on one turn.
-use Rattle.std.proofs.Common.{◌≡◌, ◌∙◌, ◌⊎◌, inl, inr, Bool, true, false, cond, List, Option, None, Ok, Err, refl, sym, ap, subst}
+use Rattle.std.proofs.Common.{◌≡◌, ◌∙◌, ◌<◌, ◌⊎◌, inl, inr, Bool, true, false, cond, List, length, Option, None, Ok, Err, refl, sym, ap, subst}
 use Rattle.line_buffer.specs.KillRing.{Ring}
 use Rattle.line_buffer.specs.Line.{Line}
 use Rattle.line_buffer.specs.declared.layout.GraphemeClusterMode.{GraphemeClusterMode}
@@ -12,6 +12,7 @@ use Rattle.line_keys.specs.Display.{Display, IsRight, Surface}
 use Rattle.line_keys.specs.Draft.{Draft, hint_shown, hinted}
 use Rattle.line_keys.specs.Drawing.{Drew, DrewLine}
 use Rattle.line_keys.specs.Frame.{Frame}
+use Rattle.line_keys.specs.Item.{Item}
 use Rattle.line_keys.specs.declared.cmd.Cmd.{Cmd}
 use Rattle.line_keys.specs.declared.editor_state.EditorState as editors
 use Rattle.line_keys.specs.declared.raw_reader.RawReader as readers
@@ -22,7 +23,7 @@ use Rattle.line_editor.specs.Input.{Input}
 use Rattle.line_editor.specs.ItemShown.{ItemShown, any_drawn, drawing_shown, kept, last_drawn, ruler_behind, shows_count, shows_line, times_drawn}
 use Rattle.line_editor.specs.Keymap.{KeyState, Keymap, keymap_of}
 use Rattle.line_editor.specs.Left.{left_by}
-use Rattle.line_editor.specs.Outcomes.{Advances, Executed, NeedsMoreItems, Session, TakesTurn, TellsLeft, editor_of, session}
+use Rattle.line_editor.specs.Outcomes.{Advances, AnswersAs, Executed, NeedsMoreItems, Session, TakesTurn, TellsLeft, editor_of, session}
 use Rattle.line_editor.specs.Phrase.{entered}
 use Rattle.line_editor.specs.Reading.{ReadsCommand}
 use Rattle.line_editor.specs.Run.{kills_before, ready}
@@ -33,10 +34,11 @@ use Rattle.line_editor.specs.declared.run.Turned.TheVariants as turned
 use Rattle.line_editor.proofs.DrawnLemmas.{hint_trails, line_stays}
 use Rattle.line_editor.proofs.ShownLemmas.{none-last}
 use Rattle.line_editor.proofs.TurnLemmas.{needs_more}
+use Rattle.line_editor.proofs.PhraseReadLemmas.{has_item}
 use Rattle.line_session.specs.Searching.{IsShownBehind, Search, aim_of, search_cmd, search_of, search_prompt}
 use Rattle.line_session.specs.Steps.{Answers, AnswersTurn, DoesCommand, DoesInSearch, Executes, Rules, TurnFrom, once_drawn, reads_no_command}
 use Rattle.line_session.specs.Steps as steps
-use Rattle.line_session.specs.Taken.{AnswersAs, DrawnBehind, IsShown, IsShownWith, TakesOne, rules_by, rules_of, standing_of}
+use Rattle.line_session.specs.Taken.{DrawnBehind, IsShown, IsShownWith, TakesOne, rules_by, rules_of, standing_of}
 use Rattle.line_session.specs.declared.mode.Mode.{Mode}
 use Rattle.line_session.specs.declared.mode.Mode.TheVariants as modes
 use Rattle.line_session.specs.declared.searching.SearchCmd.{SearchCmd}
@@ -198,6 +200,31 @@ module _ {X : Type 0} (e : editors.Ghosts X) (settings : Settings) (keymap : Key
       let A : Environment → Option Left → Type 0 = λ w l. Answers settings w l modes.Editing (e.draft new) (e.draft last) next in
       leaves_so next proceeds done (subst (λ l. A (e.environment old) l) is (subst (λ w. A w left) (same ∙ frame.environment) answers), refl)
 
+-- one that does not proceed leaves nothing to be answered
+pub leaves_all : {X : Type 0} (e : editors.Ghosts X) (settings : Settings) (keymap : Keymap) (search : Search) (says : Option SearchCmd) (command : Command) (input : Input) (old mid new : X) (kills kills' : Ring)
+    → says ≡ None → Frame e old mid → e.draft mid ≡ hinted (e.environment old) (e.draft old) → DrewLine e 1 (hint_shown (e.draft mid)) Other old mid
+    → (done : Turned) → (done ≡ turned.Proceeds → ⊥) → AnswersAs done (Executed e mid input settings.indent_size kills command new kills')
+    → AnswersAs done (DoesInSearch (rules_by e keymap settings old) search says command input (editor_of e old kills) (editor_of e new kills') modes.Editing)
+leaves_all e settings read_by search says command input old mid new kills kills' none frame draft drew turned.Proceeds stops done = absurd (stops refl)
+leaves_all e settings read_by search says command input old mid new kills kills' none frame draft drew turned.Submitted stops done =
+    leaves_so e settings read_by search says command input old mid new new kills kills' none frame draft drew modes.Editing submitted done (refl, refl)
+leaves_all e settings read_by search says command input old mid new kills kills' none frame draft drew turned.Ended stops done =
+    leaves_so e settings read_by search says command input old mid new new kills kills' none frame draft drew modes.Editing ended done (refl, refl)
+leaves_all e settings read_by search says command input old mid new kills kills' none frame draft drew turned.Interrupted stops done =
+    leaves_so e settings read_by search says command input old mid new new kills kills' none frame draft drew modes.Editing interrupted done (refl, refl)
+leaves_all e settings read_by search says command input old mid new kills kills' none frame draft drew turned.NeedsMore stops done = absurd done
+
+-- and what is drawn is drawn for the last time
+pub drawn_all : {X : Type 0} (e : editors.Ghosts X) (settings : Settings) (command : Command) (input : Input) (old mid new : X) (kills kills' : Ring) (items : List Item)
+    → DrewLine e 1 (hint_shown (e.draft mid)) Other old mid → (done : Turned) → (done ≡ turned.Proceeds → ⊥)
+    → AnswersAs done (Executed e mid input settings.indent_size kills command new kills') → DrawnBehind e items modes.Editing done new
+drawn_all e settings command input old mid new kills kills' items drew turned.Proceeds stops done = absurd (stops refl)
+drawn_all e settings command input old mid new kills kills' items drew turned.Submitted stops done = (done.drawn.right drew.right, done.drawn.no_hint (hint_trails e mid drew.shows))
+drawn_all e settings command input old mid new kills kills' items drew turned.Ended stops done = (done.drawn.right drew.right, done.drawn.no_hint (hint_trails e mid drew.shows))
+drawn_all e settings command input old mid new kills kills' items drew turned.Interrupted stops done =
+    (done.drawn.at_end, done.drawn.in_place drew.shows.in_full.position, done.drawn.ends (hint_trails e mid drew.shows))
+drawn_all e settings command input old mid new kills kills' items drew turned.NeedsMore stops done = absurd done
+
 -- in a search a command was read, and what it says was done: that is a turn
 module _ {X Y : Type 0} (e : editors.Ghosts X) (r : readers.Ghosts Y) (settings : Settings) (searching : Searching) (old middle new : X) (keys keys' : KeyState)
     (reader reader' : Y) (kills reset kills' : Ring) (c : Cmd) (all : ReadsCommand e r grouped (Ok c) old keys reader middle keys' reader')
@@ -240,6 +267,13 @@ module _ {X Y : Type 0} (e : editors.Ghosts X) (r : readers.Ghosts Y) (settings 
   searched_so turned.Ended next does mode = (search_so next ended (does (keymap_of keys (r.own_binding (r.kept reader)))), elim mode [ inl goes ↦ absurd (cc) | inr is ↦ is ])
   searched_so turned.Interrupted next does mode = (search_so next interrupted (does (keymap_of keys (r.own_binding (r.kept reader)))), elim mode [ inl goes ↦ absurd (cc) | inr is ↦ is ])
   searched_so turned.NeedsMore next does mode = absurd (does (keymap_of keys (r.own_binding (r.kept reader))))
+
+-- a command that was read has taken an item
+pub fewer_read : {X Y : Type 0} (e : editors.Ghosts X) (r : readers.Ghosts Y) (old middle : X) (keys keys' : KeyState) (reader reader' : Y) (c : Cmd)
+    → ReadsCommand e r grouped (Ok c) old keys reader middle keys' reader' → length (r.rest reader') < length (r.rest reader)
+fewer_read e r old middle keys keys' reader reader' c all =
+    let was = all.phrase.read in
+    has_item e r _ _ _ _ reader reader' was.items was.read was.cut was.comes
 
 -- the items ran out in a search
 pub dries_up : {X Y : Type 0} (e : editors.Ghosts X) (r : readers.Ghosts Y) (settings : Settings) (searching : Searching) (old new : X) (keys keys' : KeyState) (reader reader' : Y) (kills : Ring) (f : ReadlineError)

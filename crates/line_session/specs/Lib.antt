@@ -7,6 +7,7 @@ pub mod OneSearch
 pub mod Pieces
 pub mod Reading
 pub mod Searching
+pub mod SessionIsRun
 pub mod Sitting
 pub mod Steps
 pub mod Taken

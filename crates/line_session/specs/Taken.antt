@@ -34,14 +34,6 @@ pub record WaitsBehind (settled : Bool) (by : Rules) (start left : Standing) : T
 abbrev pub is_settled : Mode → Bool → Bool
 is_settled mode own_prompt = if shows_line mode then own_prompt else true
 
--- a turn that ended so has this answer
-abbrev pub AnswersAs : Turned → (Answer → Type 0) → Type 0
-AnswersAs turned.Proceeds P = P proceeds
-AnswersAs turned.Submitted P = P submitted
-AnswersAs turned.Ended P = P ended
-AnswersAs turned.Interrupted P = P interrupted
-AnswersAs turned.NeedsMore P = ⊥
-
 -- how turns end that were taken in a call: with the answer of the last one; or where more items are awaited
 abbrev pub ComesTo : Bool → Rules → Standing → Standing → Turned → Type 0
 ComesTo settled by start end turned.Proceeds = ⊥

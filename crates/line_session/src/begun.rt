@@ -4,6 +4,7 @@ ghost use Rattle.line_config.specs.Error.{FaultsOnly, MemoryOnly};
 ghost use Rattle.line_editor.specs.Binding.{bound_of};
 ghost use Rattle.line_editor.specs.Editor.{Begins};
 ghost use Rattle.line_editor.specs.Input.{first_input};
+ghost use Rattle.line_editor.specs.InputState.{remembered_input};
 ghost use Rattle.line_buffer.specs.Changes.{no_changes};
 ghost use Rattle.line_keys.specs.Frame.{Frame};
 ghost use Rattle.line_keys.specs.Item.{Item};
@@ -17,14 +18,15 @@ ghost use Rattle.line_session.specs.Sitting.{line_with, rules_for, standing_with
 ghost use Rattle.line_session.specs.Steps.{starting, once_resized};
 ghost use Rattle.line_session.specs.Taken.{ComesTo, is_settled};
 
+use crate::modal::{Line, Modal};
 use crate::mode::Mode;
 use crate::turns::take_turns;
 use line_buffer::{KillRing, Unit};
 use line_config::{Config, Prompt, Result};
 use line_editor::binding::ConditionalEventHandler;
 use line_editor::edit::State;
-use line_editor::edit::kept::KeptLine;
-use line_editor::input_state::kept::KeptInput;
+use line_editor::edit::open_line::KeptLine;
+use line_editor::input_state::remembered::Remembered;
 use line_editor::{Bindings, InputState, Turned};
 use line_keys::editor_state::EditorState;
 use line_parts::{Context, Helper, History};
@@ -37,7 +39,7 @@ use std::io::Write;
 /// A line that has begun, between two calls.
 pub(crate) struct Begun<H: Helper> {
     pub(crate) line: KeptLine<H>,
-    pub(crate) input: KeptInput,
+    pub(crate) input: Remembered,
     /// What the next item is read as.
     pub(crate) mode: Mode,
     /// Whether the line is to be drawn before the next key is read.
@@ -65,18 +67,11 @@ fn give_back<T, U>(one: &mut T, other: &mut U)
 }
 
 /// Leaves the terminal's cursor below a line that has ended. Returns how it ended. Where the line awaits more items, all stays.
-fn leave<'out, 'prompt, O: Write + Drop, H: Helper, P: Prompt, S: History>(
-    alloc: Global,
-    turned: Result<Turned>,
-    state: &mut State<'out, 'prompt, Ansi<O, KeyQueue>, H, P, S>,
-) -> Result<Turned>
+fn leave<E: Modal>(alloc: Global, turned: Result<Turned>, state: &mut E) -> Result<Turned>
     ensures ended { IfOk result (λ done. turned ≡ Ok done) }
-    ensures display { let e = ⟦<State<'out, 'prompt, Ansi<O, KeyQueue>, H, P, S> as EditorState>⟧ in
-        result ≡ Ok Turned.NeedsMore → e.display state.new ≡ e.display state.old }
-    ensures draft { let e = ⟦<State<'out, 'prompt, Ansi<O, KeyQueue>, H, P, S> as EditorState>⟧ in
-        e.draft state.new ≡ e.draft state.old }
-    ensures frame { let e = ⟦<State<'out, 'prompt, Ansi<O, KeyQueue>, H, P, S> as EditorState>⟧ in
-        Frame e state.old state.new }
+    ensures display { result ≡ Ok Turned.NeedsMore → E.display state.new ≡ E.display state.old }
+    ensures draft { E.draft state.new ≡ E.draft state.old }
+    ensures frame { Frame E.EditorState state.old state.new }
     ensures faults { FaultsOnly turned → FaultsOnly result }
 {
     let done = turned?;
@@ -84,39 +79,28 @@ fn leave<'out, 'prompt, O: Write + Drop, H: Helper, P: Prompt, S: History>(
         return Ok(done);
     }
     state.move_cursor_to_end()?;
-    state.move_cursor_at_leftmost(&mut KeyQueue::new(alloc))?;
+    state.move_cursor_at_leftmost(alloc)?;
     Ok(done)
 }
 
 /// Takes the terminal's cursor to the first column, below what stands there of a list or of another program, if something may.
-fn leave_others<'out, 'prompt, O: Write + Drop, H: Helper, P: Prompt, S: History>(
-    alloc: Global,
-    mode: &Mode,
-    state: &mut State<'out, 'prompt, Ansi<O, KeyQueue>, H, P, S>,
-) -> Result<()>
-    ensures draft { let e = ⟦<State<'out, 'prompt, Ansi<O, KeyQueue>, H, P, S> as EditorState>⟧ in
-        e.draft state.new ≡ e.draft state.old }
-    ensures frame { let e = ⟦<State<'out, 'prompt, Ansi<O, KeyQueue>, H, P, S> as EditorState>⟧ in
-        Frame e state.old state.new }
+fn leave_others<E: Modal>(alloc: Global, mode: &Mode, state: &mut E) -> Result<()>
+    ensures draft { E.draft state.new ≡ E.draft state.old }
+    ensures frame { Frame E.EditorState state.old state.new }
     ensures faults { FaultsOnly result }
 {
     if !mode.is_above_others() {
         return Ok(());
     }
-    state.move_cursor_at_leftmost(&mut KeyQueue::new(alloc))
+    state.move_cursor_at_leftmost(alloc)
 }
 
 /// Returns whether the line is to be drawn before the next key is read: unless more keys are awaited after its own prompt, or for a
 /// list.
-fn is_to_be_drawn<'out, 'prompt, O: Write + Drop, H: Helper, P: Prompt, S: History>(
-    mode: &Mode,
-    turned: &Result<Turned>,
-    state: &State<'out, 'prompt, Ansi<O, KeyQueue>, H, P, S>,
-) -> bool
+fn is_to_be_drawn<E: Modal>(mode: &Mode, turned: &Result<Turned>, state: &E) -> bool
     ensures more { result ≡ false → turned.now ≡ Ok Turned.NeedsMore }
-    ensures prompt { let e = ⟦<State<'out, 'prompt, Ansi<O, KeyQueue>, H, P, S> as EditorState>⟧ in
-        turned.now ≡ Ok Turned.NeedsMore
-        → not result ≡ is_settled mode.now (e.display state.now).layout.default_prompt }
+    ensures prompt { turned.now ≡ Ok Turned.NeedsMore → not result ≡ is_settled mode.now
+        (E.display state.now).layout.default_prompt }
 {
     match turned {
         Ok(Turned::NeedsMore) => mode.shows_line() && !state.is_default_prompt(),
@@ -157,7 +141,7 @@ pub(crate) fn begin<'out, 'prompt, O: Write + Drop, H: Helper, S: History>(
       line = edited.line;
       changes = edited.changes;
     } }
-    ensures input { result.input ≡ first_input config.now.edit_mode }
+    ensures input { remembered_input result.input ≡ first_input config.now.edit_mode }
     ensures mode { result.mode ≡ Mode.Editing }
     ensures draws { result.draws ≡ true }
     ensures prompt { result.line.drawing.prompt_end
@@ -174,7 +158,7 @@ pub(crate) fn begin<'out, 'prompt, O: Write + Drop, H: Helper, S: History>(
     let lent = lent.unwrap();
     let begun = Begun {
         line,
-        input: KeptInput::new(config),
+        input: Remembered::new(config),
         mode: Mode::Editing,
         draws: true,
     };
@@ -190,8 +174,8 @@ fn state_of<'out, 'prompt, O: Write + Drop, H: Helper, P: Prompt, S: History>(
     helper: &'out mut H,
     history: &'out S,
     edited: EditedLine,
-) -> State<'out, 'prompt, Ansi<O, KeyQueue>, H, P, S>
-    ensures { let e = ⟦<State<'out, 'prompt, Ansi<O, KeyQueue>, H, P, S> as EditorState>⟧ in
+) -> Line<'out, 'prompt, O, H, P, S>
+    ensures { let e = ⟦<Line<'out, 'prompt, O, H, P, S> as EditorState>⟧ in
         let w = ⟦<Ansi<O, KeyQueue> as ScreenState>⟧ in
         Begins e result
         (record (empty_draft (length (S.lines history.now))) {
@@ -297,8 +281,9 @@ impl<H: Helper> Begun<H> {
             (rules_for (bound_of g bindings.now) keys.old.binds
             config.now self.line.drawing.prompt_end.col asked)
             (starting asked self.draws
-            (standing_with self.line.draft self.input self.mode keys.old.rest kill_ring.old))
-            (standing_with result.0.line.draft result.0.input result.0.mode
+            (standing_with self.line.draft (remembered_input self.input) self.mode
+            keys.old.rest kill_ring.old))
+            (standing_with result.0.line.draft (remembered_input result.0.input) result.0.mode
             keys.new.rest kill_ring.new)) }
         ensures surface { ⟦<Ansi<O, KeyQueue> as ScreenState>⟧.surface screen.new
             ≡ ⟦<Ansi<O, KeyQueue> as ScreenState>⟧.surface screen.old }

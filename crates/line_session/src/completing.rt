@@ -8,17 +8,13 @@ ghost use Rattle.line_session.specs.Completing.{Agree, BeginsCompletion, Elects,
 ghost use Rattle.line_session.specs.Taken.{IsShown, IsShownIn};
 
 use crate::listing::list;
+use crate::modal::Modal;
 use crate::mode::Mode;
-use line_config::{CompletionType, Config, Prompt, Result};
-use line_editor::edit::State;
+use line_config::{CompletionType, Config, Result};
 use line_keys::editor_state::EditorState;
 use line_keys::refresher::Refresher;
 use line_parts::completion::{Candidate, Pair, longest_common_prefix};
-use line_parts::{Helper, History};
-use line_screen::KeyQueue;
-use line_term::Ansi;
 use std::alloc::Global;
-use std::io::Write;
 
 /// Candidates that are gone through.
 pub struct Completing {
@@ -48,19 +44,12 @@ impl Drop for Completing {
 ///
 /// # Errors
 /// Those of the helper and of the output: `Io` and `Memory`.
-pub(crate) fn complete<'out, 'prompt, O: Write + Drop, H: Helper, P: Prompt, S: History>(
-    state: &mut State<'out, 'prompt, Ansi<O, KeyQueue>, H, P, S>,
-    config: &Config,
-) -> Result<Mode>
-    requires { let e = ⟦<State<'out, 'prompt, Ansi<O, KeyQueue>, H, P, S> as EditorState>⟧ in
-        IsShown e state.old }
-    ensures begins { let e = ⟦<State<'out, 'prompt, Ansi<O, KeyQueue>, H, P, S> as EditorState>⟧ in
-        IfOk result (BeginsCompletion config.now (e.environment state.old)
-        (e.draft state.old) (e.draft state.new)) }
-    ensures shown { let e = ⟦<State<'out, 'prompt, Ansi<O, KeyQueue>, H, P, S> as EditorState>⟧ in
-        IfOk result (λ mode. IsShownIn e mode state.new) }
-    ensures frame { let e = ⟦<State<'out, 'prompt, Ansi<O, KeyQueue>, H, P, S> as EditorState>⟧ in
-        Frame e state.old state.new }
+pub(crate) fn complete<E: Modal>(state: &mut E, config: &Config) -> Result<Mode>
+    requires { IsShown E.EditorState state.old }
+    ensures begins { IfOk result (BeginsCompletion config.now (E.environment state.old)
+        (E.draft state.old) (E.draft state.new)) }
+    ensures shown { IfOk result (λ mode. IsShownIn E.EditorState mode state.new) }
+    ensures frame { Frame E.EditorState state.old state.new }
     ensures faults { FaultsOnly result }
 {
     let (start, candidates) = state.completions()?;
@@ -118,21 +107,17 @@ fn pair<C: Candidate>(alloc: Global, candidate: &C) -> Result<Pair>
 }
 
 /// Puts candidates in as far as they agree. A single one is done then; several beep, and are listed at once or at another Tab.
-fn complete_in_common<'out, 'prompt, O: Write + Drop, H: Helper, P: Prompt, S: History>(
+fn complete_in_common<E: Modal>(
     start: usize,
     candidates: Vec<Pair>,
-    state: &mut State<'out, 'prompt, Ansi<O, KeyQueue>, H, P, S>,
+    state: &mut E,
     config: &Config,
 ) -> Result<Mode>
-    requires { let e = ⟦<State<'out, 'prompt, Ansi<O, KeyQueue>, H, P, S> as EditorState>⟧ in
-        IsShown e state.old }
-    ensures puts { let e = ⟦<State<'out, 'prompt, Ansi<O, KeyQueue>, H, P, S> as EditorState>⟧ in
-        IfOk result (PutsInCommon config.now (e.environment state.old) start candidates
-        (e.draft state.old) (e.draft state.new)) }
-    ensures shown { let e = ⟦<State<'out, 'prompt, Ansi<O, KeyQueue>, H, P, S> as EditorState>⟧ in
-        IfOk result (λ mode. IsShownIn e mode state.new) }
-    ensures frame { let e = ⟦<State<'out, 'prompt, Ansi<O, KeyQueue>, H, P, S> as EditorState>⟧ in
-        Frame e state.old state.new }
+    requires { IsShown E.EditorState state.old }
+    ensures puts { IfOk result (PutsInCommon config.now (E.environment state.old) start candidates
+        (E.draft state.old) (E.draft state.new)) }
+    ensures shown { IfOk result (λ mode. IsShownIn E.EditorState mode state.new) }
+    ensures frame { Frame E.EditorState state.old state.new }
     ensures faults { FaultsOnly result }
 {
     agree(start, &candidates, state)?;
@@ -147,20 +132,12 @@ fn complete_in_common<'out, 'prompt, O: Write + Drop, H: Helper, P: Prompt, S: H
 }
 
 /// Puts in what candidates begin with in common, where that is longer than what stands there, or all of the only one.
-fn agree<'out, 'prompt, O: Write + Drop, H: Helper, P: Prompt, S: History>(
-    start: usize,
-    candidates: &[Pair],
-    state: &mut State<'out, 'prompt, Ansi<O, KeyQueue>, H, P, S>,
-) -> Result<()>
-    requires { let e = ⟦<State<'out, 'prompt, Ansi<O, KeyQueue>, H, P, S> as EditorState>⟧ in
-        IsShown e state.old }
-    ensures agree { let e = ⟦<State<'out, 'prompt, Ansi<O, KeyQueue>, H, P, S> as EditorState>⟧ in
-        OnOk result (Agree (e.environment state.old) start candidates.now
-        (e.draft state.old) (e.draft state.new)) }
-    ensures shown { let e = ⟦<State<'out, 'prompt, Ansi<O, KeyQueue>, H, P, S> as EditorState>⟧ in
-        OnOk result (IsShown e state.new) }
-    ensures frame { let e = ⟦<State<'out, 'prompt, Ansi<O, KeyQueue>, H, P, S> as EditorState>⟧ in
-        Frame e state.old state.new }
+fn agree<E: Modal>(start: usize, candidates: &[Pair], state: &mut E) -> Result<()>
+    requires { IsShown E.EditorState state.old }
+    ensures agree { OnOk result (Agree (E.environment state.old) start candidates.now
+        (E.draft state.old) (E.draft state.new)) }
+    ensures shown { OnOk result (IsShown E.EditorState state.new) }
+    ensures frame { Frame E.EditorState state.old state.new }
     ensures faults { FaultsOnly result }
 {
     let Some(common) = longest_common_prefix(candidates) else {
@@ -180,18 +157,11 @@ fn is_put_in(cursor: usize, start: usize, common: &str, count: usize) -> bool
 }
 
 /// Puts in the text of an elected candidate, and draws the line. Returns whether the changes have grown by it.
-fn elect<'out, 'prompt, O: Write + Drop, H: Helper, P: Prompt, S: History>(
-    start: usize,
-    elected: &str,
-    state: &mut State<'out, 'prompt, Ansi<O, KeyQueue>, H, P, S>,
-) -> Result<bool>
-    ensures elects { let e = ⟦<State<'out, 'prompt, Ansi<O, KeyQueue>, H, P, S> as EditorState>⟧ in
-        IfOk result (λ grown. Elects (e.environment state.old) start elected.now grown
-        (e.draft state.old) (e.draft state.new)) }
-    ensures shown { let e = ⟦<State<'out, 'prompt, Ansi<O, KeyQueue>, H, P, S> as EditorState>⟧ in
-        OnOk result (IsShown e state.new) }
-    ensures frame { let e = ⟦<State<'out, 'prompt, Ansi<O, KeyQueue>, H, P, S> as EditorState>⟧ in
-        Frame e state.old state.new }
+fn elect<E: Modal>(start: usize, elected: &str, state: &mut E) -> Result<bool>
+    ensures elects { IfOk result (λ grown. Elects (E.environment state.old) start elected.now grown
+        (E.draft state.old) (E.draft state.new)) }
+    ensures shown { OnOk result (IsShown E.EditorState state.new) }
+    ensures frame { Frame E.EditorState state.old state.new }
     ensures faults { FaultsOnly result }
 {
     let grown = state.update_completion(start, elected)?;
@@ -204,17 +174,11 @@ impl Completing {
     ///
     /// # Errors
     /// Those of the helper and of the output: `Io` and `Memory`.
-    pub(crate) fn show_next<'out, 'prompt, O: Write + Drop, H: Helper, P: Prompt, S: History>(
-        self,
-        state: &mut State<'out, 'prompt, Ansi<O, KeyQueue>, H, P, S>,
-    ) -> Result<Mode>
-        ensures goes { let e = ⟦<State<'out, 'prompt, Ansi<O, KeyQueue>, H, P, S> as EditorState>⟧
-            in IfOk result (GoesOnTo (e.environment state.old) self (index_behind self)
-            (e.draft state.old) (e.draft state.new)) }
-        ensures shown { let e = ⟦<State<'out, 'prompt, Ansi<O, KeyQueue>, H, P, S> as EditorState>⟧
-            in IfOk result (λ mode. IsShownIn e mode state.new) }
-        ensures frame { let e = ⟦<State<'out, 'prompt, Ansi<O, KeyQueue>, H, P, S> as EditorState>⟧
-            in Frame e state.old state.new }
+    pub(crate) fn show_next<E: Modal>(self, state: &mut E) -> Result<Mode>
+        ensures goes { IfOk result (GoesOnTo (E.environment state.old) self (index_behind self)
+            (E.draft state.old) (E.draft state.new)) }
+        ensures shown { IfOk result (λ mode. IsShownIn E.EditorState mode state.new) }
+        ensures frame { Frame E.EditorState state.old state.new }
         ensures faults { FaultsOnly result }
     {
         let index = if self.shown < self.candidates.len() {
@@ -229,17 +193,11 @@ impl Completing {
     ///
     /// # Errors
     /// Those of `show_next`.
-    pub(crate) fn show_previous<'out, 'prompt, O: Write + Drop, H: Helper, P: Prompt, S: History>(
-        self,
-        state: &mut State<'out, 'prompt, Ansi<O, KeyQueue>, H, P, S>,
-    ) -> Result<Mode>
-        ensures goes { let e = ⟦<State<'out, 'prompt, Ansi<O, KeyQueue>, H, P, S> as EditorState>⟧
-            in IfOk result (GoesOnTo (e.environment state.old) self (index_before self)
-            (e.draft state.old) (e.draft state.new)) }
-        ensures shown { let e = ⟦<State<'out, 'prompt, Ansi<O, KeyQueue>, H, P, S> as EditorState>⟧
-            in IfOk result (λ mode. IsShownIn e mode state.new) }
-        ensures frame { let e = ⟦<State<'out, 'prompt, Ansi<O, KeyQueue>, H, P, S> as EditorState>⟧
-            in Frame e state.old state.new }
+    pub(crate) fn show_previous<E: Modal>(self, state: &mut E) -> Result<Mode>
+        ensures goes { IfOk result (GoesOnTo (E.environment state.old) self (index_before self)
+            (E.draft state.old) (E.draft state.new)) }
+        ensures shown { IfOk result (λ mode. IsShownIn E.EditorState mode state.new) }
+        ensures frame { Frame E.EditorState state.old state.new }
         ensures faults { FaultsOnly result }
     {
         let index = if self.shown == 0 {
@@ -251,18 +209,11 @@ impl Completing {
     }
 
     /// Shows the candidate at an index in place of the shown one; past the last one, with a beep, the line from before.
-    fn show<'out, 'prompt, O: Write + Drop, H: Helper, P: Prompt, S: History>(
-        self,
-        index: usize,
-        state: &mut State<'out, 'prompt, Ansi<O, KeyQueue>, H, P, S>,
-    ) -> Result<Mode>
-        ensures goes { let e = ⟦<State<'out, 'prompt, Ansi<O, KeyQueue>, H, P, S> as EditorState>⟧
-            in IfOk result (GoesOnTo (e.environment state.old) self index
-            (e.draft state.old) (e.draft state.new)) }
-        ensures shown { let e = ⟦<State<'out, 'prompt, Ansi<O, KeyQueue>, H, P, S> as EditorState>⟧
-            in IfOk result (λ mode. IsShownIn e mode state.new) }
-        ensures frame { let e = ⟦<State<'out, 'prompt, Ansi<O, KeyQueue>, H, P, S> as EditorState>⟧
-            in Frame e state.old state.new }
+    fn show<E: Modal>(self, index: usize, state: &mut E) -> Result<Mode>
+        ensures goes { IfOk result (GoesOnTo (E.environment state.old) self index
+            (E.draft state.old) (E.draft state.new)) }
+        ensures shown { IfOk result (λ mode. IsShownIn E.EditorState mode state.new) }
+        ensures frame { Frame E.EditorState state.old state.new }
         ensures faults { FaultsOnly result }
     {
         let Completing {
@@ -285,17 +236,11 @@ impl Completing {
     ///
     /// # Errors
     /// Those of the output: `Io` and `Memory`.
-    pub(crate) fn give_up<'out, 'prompt, O: Write + Drop, H: Helper, P: Prompt, S: History>(
-        self,
-        state: &mut State<'out, 'prompt, Ansi<O, KeyQueue>, H, P, S>,
-    ) -> Result<Mode>
-        ensures gives { let e = ⟦<State<'out, 'prompt, Ansi<O, KeyQueue>, H, P, S> as EditorState>⟧
-            in IfOk result (GivesUp (e.environment state.old) self
-            (e.draft state.old) (e.draft state.new)) }
-        ensures shown { let e = ⟦<State<'out, 'prompt, Ansi<O, KeyQueue>, H, P, S> as EditorState>⟧
-            in IfOk result (λ mode. IsShownIn e mode state.new) }
-        ensures frame { let e = ⟦<State<'out, 'prompt, Ansi<O, KeyQueue>, H, P, S> as EditorState>⟧
-            in Frame e state.old state.new }
+    pub(crate) fn give_up<E: Modal>(self, state: &mut E) -> Result<Mode>
+        ensures gives { IfOk result (GivesUp (E.environment state.old) self (E.draft state.old)
+            (E.draft state.new)) }
+        ensures shown { IfOk result (λ mode. IsShownIn E.EditorState mode state.new) }
+        ensures frame { Frame E.EditorState state.old state.new }
         ensures faults { FaultsOnly result }
     {
         take_back(self.grown, state)?;
@@ -305,15 +250,10 @@ impl Completing {
 }
 
 /// Takes the change of the shown candidate back, if the changes have grown by it. Nothing is drawn.
-fn take_back<'out, 'prompt, O: Write + Drop, H: Helper, P: Prompt, S: History>(
-    grown: bool,
-    state: &mut State<'out, 'prompt, Ansi<O, KeyQueue>, H, P, S>,
-) -> Result<()>
-    ensures draft { let e = ⟦<State<'out, 'prompt, Ansi<O, KeyQueue>, H, P, S> as EditorState>⟧ in
-        OnOk result (e.draft state.new
-        ≡ (if grown then taken_back_once (e.draft state.old) else e.draft state.old)) }
-    ensures frame { let e = ⟦<State<'out, 'prompt, Ansi<O, KeyQueue>, H, P, S> as EditorState>⟧ in
-        Frame e state.old state.new }
+fn take_back<E: Modal>(grown: bool, state: &mut E) -> Result<()>
+    ensures draft { OnOk result (E.draft state.new
+        ≡ (if grown then taken_back_once (E.draft state.old) else E.draft state.old)) }
+    ensures frame { Frame E.EditorState state.old state.new }
     ensures faults { FaultsOnly result }
 {
     if grown {
@@ -323,19 +263,12 @@ fn take_back<'out, 'prompt, O: Write + Drop, H: Helper, P: Prompt, S: History>(
 }
 
 /// Shows a candidate, or, with a beep, the line as it is. Returns whether the changes have grown by it.
-fn show<'out, 'prompt, O: Write + Drop, H: Helper, P: Prompt, S: History>(
-    start: usize,
-    candidate: Option<&Pair>,
-    state: &mut State<'out, 'prompt, Ansi<O, KeyQueue>, H, P, S>,
-) -> Result<bool>
-    ensures shows { let e = ⟦<State<'out, 'prompt, Ansi<O, KeyQueue>, H, P, S> as EditorState>⟧ in
-        IfOk result (λ grown. Shows (e.environment state.old) start
-        (option_map (λ pair. pair.now) candidate.entry) grown
-        (e.draft state.old) (e.draft state.new)) }
-    ensures shown { let e = ⟦<State<'out, 'prompt, Ansi<O, KeyQueue>, H, P, S> as EditorState>⟧ in
-        OnOk result (IsShown e state.new) }
-    ensures frame { let e = ⟦<State<'out, 'prompt, Ansi<O, KeyQueue>, H, P, S> as EditorState>⟧ in
-        Frame e state.old state.new }
+fn show<E: Modal>(start: usize, candidate: Option<&Pair>, state: &mut E) -> Result<bool>
+    ensures shows { IfOk result (λ grown. Shows (E.environment state.old) start
+        (option_map (λ pair. pair.now) candidate.entry) grown (E.draft state.old)
+        (E.draft state.new)) }
+    ensures shown { OnOk result (IsShown E.EditorState state.new) }
+    ensures frame { Frame E.EditorState state.old state.new }
     ensures faults { FaultsOnly result }
 {
     match candidate {

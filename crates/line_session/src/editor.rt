@@ -82,6 +82,7 @@ impl<O: Write + Drop, H: Helper + Drop, S: History + Drop> Drop for Editor<O, H,
 impl<O: Write + Drop, H: Helper + Drop, S: History + Drop> Model for Editor<O, H, S> {
     ghost use Rattle.std.specs.Prelude.{true, option_map, IfSome, string_bytes};
     ghost use Rattle.line_buffer.specs.declared.layout.GraphemeClusterMode.TheVariants.{Unicode};
+    ghost use Rattle.line_editor.specs.InputState.{remembered_input};
     ghost use Rattle.line_screen.specs.Measure.{measured};
     ghost use Rattle.line_session.specs.Kept.{Fits, answers_of};
     ghost use Rattle.line_session.specs.Sitting.{Sitting};
@@ -92,7 +93,7 @@ impl<O: Write + Drop, H: Helper + Drop, S: History + Drop> Model for Editor<O, H
     ghost view = { λ e. record {
       line = option_map (λ begun. record {
         kept = begun.line;
-        input = begun.input;
+        input = remembered_input begun.input;
         mode = begun.mode;
         draws = begun.draws;
       }) e.line;

@@ -2,6 +2,7 @@
 ghost use Rattle.line_session.specs.OneChange.{CompletionIsOneChange, CompletionKeepsTheRest, GivingUpRestores};
 ghost use Rattle.line_session.specs.OneSearch.{GivingUpSearchRestores, SearchIsOneChange};
 ghost use Rattle.line_session.specs.Pieces.{EndsOnce, EndsTheSame};
+ghost use Rattle.line_session.specs.SessionIsRun.{SessionIsRun};
 
 /// A line that ends has the same end however its items arrive, where no binding looks at the hint: in pieces, or all at once by as
 /// many calls as it takes, since a call stops where the program is suspended.
@@ -41,4 +42,10 @@ pub fn a_search_is_one_change()
 /// Giving up a search restores the line from before, with its cursor, as the line of the history that it was.
 pub fn giving_a_search_up_restores()
     ensures { GivingUpSearchRestores }
+{}
+
+/// From where commands are read, and with none of those among them that are left to the program, a session is a run of the abstract
+/// editor: turns that proceed and one that does not, or items that run out. The one has an end just where the other has it.
+pub fn a_session_is_a_run()
+    ensures { SessionIsRun }
 {}

@@ -7,6 +7,7 @@ pub mod editor;
 pub mod iter;
 pub mod laws;
 pub mod listing;
+mod modal;
 pub mod mode;
 pub mod searching;
 mod turns;

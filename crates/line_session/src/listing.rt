@@ -5,20 +5,14 @@ ghost use Rattle.line_keys.specs.Frame.{Frame};
 ghost use Rattle.line_session.specs.Completing.{EndsList, Lists, ListsPage, ListsRows, Replies, reply_by, reply_of, reply_to_more, reply_to_question, unctrled};
 ghost use Rattle.line_session.specs.Taken.{IsShownIn, item_of};
 
+use crate::modal::Modal;
 use crate::mode::{AsItIs, Mode};
-use line_buffer::Position;
-use line_config::{Config, Prompt, Result};
-use line_editor::edit::State;
+use line_config::{Config, Result};
 use line_keys::editor_state::EditorState;
 use line_keys::keys::{KeyCode, KeyEvent, Modifiers};
 use line_keys::refresher::Refresher;
 use line_parts::completion::Pair;
-use line_parts::{Helper, History};
-use line_screen::KeyQueue;
-use line_state::Renderer;
-use line_term::Ansi;
 use std::alloc::Global;
-use std::io::Write;
 
 /// Candidates that are listed row by row: down the first column, then down the next.
 pub struct Listing {
@@ -63,22 +57,15 @@ pub enum Reply {
 ///
 /// # Errors
 /// Those of the output and of the helper's hints: `Io` and `Memory`. The line is drawn below what there is of the list then.
-pub(crate) fn list<'out, 'prompt, O: Write + Drop, H: Helper, P: Prompt, S: History>(
-    candidates: Vec<Pair>,
-    state: &mut State<'out, 'prompt, Ansi<O, KeyQueue>, H, P, S>,
-    config: &Config,
-) -> Result<Mode>
-    ensures lists { let e = ⟦<State<'out, 'prompt, Ansi<O, KeyQueue>, H, P, S> as EditorState>⟧ in
-        IfOk result (Lists config.now (e.environment state.old) candidates
-        (e.draft state.old) (e.draft state.new)) }
-    ensures shown { let e = ⟦<State<'out, 'prompt, Ansi<O, KeyQueue>, H, P, S> as EditorState>⟧ in
-        IfOk result (λ mode. IsShownIn e mode state.new) }
-    ensures frame { let e = ⟦<State<'out, 'prompt, Ansi<O, KeyQueue>, H, P, S> as EditorState>⟧ in
-        Frame e state.old state.new }
+pub(crate) fn list<E: Modal>(candidates: Vec<Pair>, state: &mut E, config: &Config) -> Result<Mode>
+    ensures lists { IfOk result (Lists config.now (E.environment state.old) candidates
+        (E.draft state.old) (E.draft state.new)) }
+    ensures shown { IfOk result (λ mode. IsShownIn E.EditorState mode state.new) }
+    ensures frame { Frame E.EditorState state.old state.new }
     ensures faults { FaultsOnly result }
 {
     let asks = config.completion_prompt_limit() < candidates.as_slice().len();
-    let listing = Listing::new(candidates, state.out());
+    let listing = Listing::new(candidates, state);
     if asks {
         return listing.ask(state);
     }
@@ -87,14 +74,14 @@ pub(crate) fn list<'out, 'prompt, O: Write + Drop, H: Helper, P: Prompt, S: Hist
 
 impl Listing {
     /// Returns a list of candidates on a screen.
-    fn new<O: Write + Drop>(candidates: Vec<Pair>, screen: &Ansi<O, KeyQueue>) -> Listing
+    fn new<E: Modal>(candidates: Vec<Pair>, state: &E) -> Listing
         ensures candidates { result.candidates ≡ candidates }
         ensures next { result.next ≡ None }
     {
-        let screen_columns: usize = screen.get_columns().into();
+        let screen_columns = state.columns();
         let mut widest = 0;
         for candidate in &candidates {
-            widest = widest.max(width_of(candidate, screen));
+            widest = widest.max(width_of(candidate, state));
         }
         let width = screen_columns.min(widest.saturating_add(2));
         let columns = screen_columns / width;
@@ -109,15 +96,10 @@ impl Listing {
     }
 
     /// Asks whether to list the candidates.
-    fn ask<'out, 'prompt, O: Write + Drop, H: Helper, P: Prompt, S: History>(
-        self,
-        state: &mut State<'out, 'prompt, Ansi<O, KeyQueue>, H, P, S>,
-    ) -> Result<Mode>
-        ensures asks { let e = ⟦<State<'out, 'prompt, Ansi<O, KeyQueue>, H, P, S> as EditorState>⟧
-            in IfOk result (λ mode. (mode ≡ Mode.Listing self)
-            × (e.draft state.new ≡ e.draft state.old)) }
-        ensures frame { let e = ⟦<State<'out, 'prompt, Ansi<O, KeyQueue>, H, P, S> as EditorState>⟧
-            in Frame e state.old state.new }
+    fn ask<E: Modal>(self, state: &mut E) -> Result<Mode>
+        ensures asks { IfOk result (λ mode. (mode ≡ Mode.Listing self) ×
+            (E.draft state.new ≡ E.draft state.old)) }
+        ensures frame { Frame E.EditorState state.old state.new }
         ensures faults { FaultsOnly result }
     {
         let alloc = *self.candidates.allocator();
@@ -131,18 +113,11 @@ impl Listing {
     ///
     /// # Errors
     /// Those of `list`.
-    pub(crate) fn answer<'out, 'prompt, O: Write + Drop, H: Helper, P: Prompt, S: History>(
-        self,
-        item: &AsItIs,
-        state: &mut State<'out, 'prompt, Ansi<O, KeyQueue>, H, P, S>,
-    ) -> Result<Mode>
-        ensures reply { let e = ⟦<State<'out, 'prompt, Ansi<O, KeyQueue>, H, P, S> as EditorState>⟧
-            in IfOk result (Replies (e.environment state.old) self
-            (reply_by self.next (item_of item.now)) (e.draft state.old) (e.draft state.new)) }
-        ensures shown { let e = ⟦<State<'out, 'prompt, Ansi<O, KeyQueue>, H, P, S> as EditorState>⟧
-            in IfOk result (λ mode. IsShownIn e mode state.new) }
-        ensures frame { let e = ⟦<State<'out, 'prompt, Ansi<O, KeyQueue>, H, P, S> as EditorState>⟧
-            in Frame e state.old state.new }
+    pub(crate) fn answer<E: Modal>(self, item: &AsItIs, state: &mut E) -> Result<Mode>
+        ensures reply { IfOk result (Replies (E.environment state.old) self
+            (reply_by self.next (item_of item.now)) (E.draft state.old) (E.draft state.new)) }
+        ensures shown { IfOk result (λ mode. IsShownIn E.EditorState mode state.new) }
+        ensures frame { Frame E.EditorState state.old state.new }
         ensures faults { FaultsOnly result }
     {
         match reply_by(self.next, item) {
@@ -154,43 +129,29 @@ impl Listing {
     }
 
     /// Lists a page more.
-    fn list_page<'out, 'prompt, O: Write + Drop, H: Helper, P: Prompt, S: History>(
-        self,
-        state: &mut State<'out, 'prompt, Ansi<O, KeyQueue>, H, P, S>,
-    ) -> Result<Mode>
-        ensures lists { let e = ⟦<State<'out, 'prompt, Ansi<O, KeyQueue>, H, P, S> as EditorState>⟧
-            in IfOk result (ListsPage (e.environment state.old) self
-            (e.draft state.old) (e.draft state.new)) }
-        ensures shown { let e = ⟦<State<'out, 'prompt, Ansi<O, KeyQueue>, H, P, S> as EditorState>⟧
-            in IfOk result (λ mode. IsShownIn e mode state.new) }
-        ensures frame { let e = ⟦<State<'out, 'prompt, Ansi<O, KeyQueue>, H, P, S> as EditorState>⟧
-            in Frame e state.old state.new }
+    fn list_page<E: Modal>(self, state: &mut E) -> Result<Mode>
+        ensures lists { IfOk result (ListsPage (E.environment state.old) self (E.draft state.old)
+            (E.draft state.new)) }
+        ensures shown { IfOk result (λ mode. IsShownIn E.EditorState mode state.new) }
+        ensures frame { Frame E.EditorState state.old state.new }
         ensures faults { FaultsOnly result }
     {
-        let rows: usize = state.out().get_rows().into();
-        self.list_rows(rows.saturating_sub(1).max(1), state)
+        self.list_rows(state.rows().saturating_sub(1).max(1), state)
     }
 
     /// Lists so many rows more, or as many as there are. Below the last row of the list the line is drawn.
-    fn list_rows<'out, 'prompt, O: Write + Drop, H: Helper, P: Prompt, S: History>(
-        self,
-        count: usize,
-        state: &mut State<'out, 'prompt, Ansi<O, KeyQueue>, H, P, S>,
-    ) -> Result<Mode>
-        ensures lists { let e = ⟦<State<'out, 'prompt, Ansi<O, KeyQueue>, H, P, S> as EditorState>⟧
-            in IfOk result (ListsRows (e.environment state.old) self count
-            (e.draft state.old) (e.draft state.new)) }
-        ensures shown { let e = ⟦<State<'out, 'prompt, Ansi<O, KeyQueue>, H, P, S> as EditorState>⟧
-            in IfOk result (λ mode. IsShownIn e mode state.new) }
-        ensures frame { let e = ⟦<State<'out, 'prompt, Ansi<O, KeyQueue>, H, P, S> as EditorState>⟧
-            in Frame e state.old state.new }
+    fn list_rows<E: Modal>(self, count: usize, state: &mut E) -> Result<Mode>
+        ensures lists { IfOk result (ListsRows (E.environment state.old) self count
+            (E.draft state.old) (E.draft state.new)) }
+        ensures shown { IfOk result (λ mode. IsShownIn E.EditorState mode state.new) }
+        ensures frame { Frame E.EditorState state.old state.new }
         ensures faults { FaultsOnly result }
     {
         let alloc = *self.candidates.allocator();
         let from = self.next.unwrap_or(0);
         let until = from.saturating_add(count).min(self.rows);
         write_above(alloc, "", state)?;
-        let text = self.text(alloc, state.out(), from, until)?;
+        let text = self.text(alloc, state, from, until)?;
         write_above(alloc, text.as_str(), state)?;
         if until < self.rows {
             return Ok(self.paused(until));
@@ -220,18 +181,12 @@ impl Listing {
 
     /// Returns the text of the rows from one to before another, each on a line of its own; and where these are not the last,
     /// `--More--` below them.
-    fn text<O: Write + Drop>(
-        &self,
-        alloc: Global,
-        screen: &Ansi<O, KeyQueue>,
-        from: usize,
-        until: usize,
-    ) -> Result<String>
+    fn text<E: Modal>(&self, alloc: Global, state: &E, from: usize, until: usize) -> Result<String>
         ensures memory { MemoryOnly result }
     {
         let mut text = String::new(alloc);
         for row in from..until {
-            self.push_row(&mut text, screen, row)?;
+            self.push_row(&mut text, state, row)?;
             text.push('\n')?;
         }
         if until < self.rows {
@@ -241,12 +196,7 @@ impl Listing {
     }
 
     /// Appends a row: the candidates that stand in it, each of them but the last filled up with blanks to the width of a column.
-    fn push_row<O: Write + Drop>(
-        &self,
-        text: &mut String,
-        screen: &Ansi<O, KeyQueue>,
-        row: usize,
-    ) -> Result<()>
+    fn push_row<E: Modal>(&self, text: &mut String, state: &E, row: usize) -> Result<()>
         ensures memory { MemoryOnly result }
     {
         let mut index = row;
@@ -255,7 +205,7 @@ impl Listing {
             if let Some(candidate) = self.candidates.get(index) {
                 push_blanks(text, blanks)?;
                 text.push_str(candidate.display.as_str())?;
-                blanks = self.width.saturating_sub(width_of(candidate, screen));
+                blanks = self.width.saturating_sub(width_of(candidate, state));
             }
             index = index.saturating_add(self.rows);
         }
@@ -274,46 +224,35 @@ fn push_blanks(text: &mut String, count: usize) -> Result<()>
 }
 
 /// Returns how many columns of a screen a candidate takes in a list: all of them, where it needs more than a row.
-fn width_of<O: Write + Drop>(candidate: &Pair, screen: &Ansi<O, KeyQueue>) -> usize {
-    let end = screen.calculate_position(candidate.display.as_str(), Position { row: 0, col: 0 });
+fn width_of<E: Modal>(candidate: &Pair, state: &E) -> usize {
+    let end = state.end_of(candidate.display.as_str());
     if end.row > 0 {
-        return screen.get_columns().into();
+        return state.columns();
     }
     end.col.into()
 }
 
 /// Writes a text above the line, which is to be drawn below it. Where that fails, the cursor goes below what was written, if it can.
-fn write_above<'out, 'prompt, O: Write + Drop, H: Helper, P: Prompt, S: History>(
-    alloc: Global,
-    text: &str,
-    state: &mut State<'out, 'prompt, Ansi<O, KeyQueue>, H, P, S>,
-) -> Result<()>
-    ensures draft { let e = ⟦<State<'out, 'prompt, Ansi<O, KeyQueue>, H, P, S> as EditorState>⟧ in
-        e.draft state.new ≡ e.draft state.old }
-    ensures frame { let e = ⟦<State<'out, 'prompt, Ansi<O, KeyQueue>, H, P, S> as EditorState>⟧ in
-        Frame e state.old state.new }
+fn write_above<E: Modal>(alloc: Global, text: &str, state: &mut E) -> Result<()>
+    ensures draft { E.draft state.new ≡ E.draft state.old }
+    ensures frame { Frame E.EditorState state.old state.new }
     ensures faults { FaultsOnly result }
 {
-    match state.write_above(text, &mut KeyQueue::new(alloc)) {
+    match state.write_above(alloc, text) {
         Ok(()) => Ok(()),
         Err(error) => {
-            let _ = state.move_cursor_at_leftmost(&mut KeyQueue::new(alloc));
+            let _ = state.move_cursor_at_leftmost(alloc);
             Err(error)
         }
     }
 }
 
 /// Ends a list: draws the line below it.
-fn end<'out, 'prompt, O: Write + Drop, H: Helper, P: Prompt, S: History>(
-    alloc: Global,
-    state: &mut State<'out, 'prompt, Ansi<O, KeyQueue>, H, P, S>,
-) -> Result<Mode>
-    ensures ends { let e = ⟦<State<'out, 'prompt, Ansi<O, KeyQueue>, H, P, S> as EditorState>⟧ in
-        IfOk result (EndsList (e.environment state.old) (e.draft state.old) (e.draft state.new)) }
-    ensures shown { let e = ⟦<State<'out, 'prompt, Ansi<O, KeyQueue>, H, P, S> as EditorState>⟧ in
-        IfOk result (λ mode. IsShownIn e mode state.new) }
-    ensures frame { let e = ⟦<State<'out, 'prompt, Ansi<O, KeyQueue>, H, P, S> as EditorState>⟧ in
-        Frame e state.old state.new }
+fn end<E: Modal>(alloc: Global, state: &mut E) -> Result<Mode>
+    ensures ends { IfOk result (EndsList (E.environment state.old) (E.draft state.old)
+        (E.draft state.new)) }
+    ensures shown { IfOk result (λ mode. IsShownIn E.EditorState mode state.new) }
+    ensures frame { Frame E.EditorState state.old state.new }
     ensures faults { FaultsOnly result }
 {
     write_above(alloc, "", state)?;

@@ -9,19 +9,15 @@ ghost use Rattle.line_parts.specs.History.{search_in};
 ghost use Rattle.line_session.specs.Searching.{Searches, BeginsSearch, IsShownBehind, ShowsSearch, aim_of, aim_put, aimed, before_search, grown_by, next_start, search_cmd, search_of, search_prompt};
 ghost use Rattle.line_session.specs.Taken.{IsShown, IsShownIn};
 
+use crate::modal::Modal;
 use crate::mode::Mode;
 use line_buffer::Movement;
-use line_config::{Prompt, Result};
-use line_editor::edit::State;
+use line_config::Result;
 use line_keys::cmd::Cmd;
 use line_keys::editor_state::EditorState;
 use line_keys::refresher::Refresher;
 use line_parts::history::SearchDirection;
-use line_parts::{Helper, History};
-use line_screen::KeyQueue;
-use line_term::Ansi;
 use std::alloc::Global;
-use std::io::Write;
 
 /// Where a search stands with a term.
 #[derive(Drop)]
@@ -98,23 +94,19 @@ impl SearchCmd {
 ///
 /// # Errors
 /// Those of the helper and of the output: `Io` and `Memory`.
-pub(crate) fn search<'out, 'prompt, O: Write + Drop, H: Helper, P: Prompt, S: History>(
+pub(crate) fn search<E: Modal>(
     alloc: Global,
     direction: SearchDirection,
-    state: &mut State<'out, 'prompt, Ansi<O, KeyQueue>, H, P, S>,
+    state: &mut E,
 ) -> Result<Mode>
-    requires { let e = ⟦<State<'out, 'prompt, Ansi<O, KeyQueue>, H, P, S> as EditorState>⟧ in
-        IsShown e state.old }
-    ensures begins { let e = ⟦<State<'out, 'prompt, Ansi<O, KeyQueue>, H, P, S> as EditorState>⟧ in
-        IfOk result (BeginsSearch (e.environment state.old) direction
-        (e.draft state.old) (e.draft state.new)) }
-    ensures shown { let e = ⟦<State<'out, 'prompt, Ansi<O, KeyQueue>, H, P, S> as EditorState>⟧ in
-        IfOk result (λ mode. IsShownIn e mode state.new) }
-    ensures frame { let e = ⟦<State<'out, 'prompt, Ansi<O, KeyQueue>, H, P, S> as EditorState>⟧ in
-        Frame e state.old state.new }
+    requires { IsShown E.EditorState state.old }
+    ensures begins { IfOk result (BeginsSearch (E.environment state.old) direction
+        (E.draft state.old) (E.draft state.new)) }
+    ensures shown { IfOk result (λ mode. IsShownIn E.EditorState mode state.new) }
+    ensures frame { Frame E.EditorState state.old state.new }
     ensures faults { FaultsOnly result }
 {
-    let count = state.history().len();
+    let count = state.history_len();
     if count == 0 {
         state.beep()?;
         return Ok(Mode::Editing);
@@ -143,18 +135,11 @@ impl Searching {
     /// # Errors
     /// Those of the history, the helper and the output: `Io` and `Memory`. The line is then as it was, the one from before the
     /// search, or the one that was found.
-    pub(crate) fn take<'out, 'prompt, O: Write + Drop, H: Helper, P: Prompt, S: History>(
-        self,
-        command: SearchCmd,
-        state: &mut State<'out, 'prompt, Ansi<O, KeyQueue>, H, P, S>,
-    ) -> Result<Mode>
-        ensures takes { let e = ⟦<State<'out, 'prompt, Ansi<O, KeyQueue>, H, P, S> as EditorState>⟧
-            in IfOk result (Searches (e.environment state.old) (search_of self) command
-            (e.draft state.old) (e.draft state.new)) }
-        ensures shown { let e = ⟦<State<'out, 'prompt, Ansi<O, KeyQueue>, H, P, S> as EditorState>⟧
-            in IfOk result (λ mode. IsShownIn e mode state.new) }
-        ensures frame { let e = ⟦<State<'out, 'prompt, Ansi<O, KeyQueue>, H, P, S> as EditorState>⟧
-            in Frame e state.old state.new }
+    pub(crate) fn take<E: Modal>(self, command: SearchCmd, state: &mut E) -> Result<Mode>
+        ensures takes { IfOk result (Searches (E.environment state.old) (search_of self) command
+            (E.draft state.old) (E.draft state.new)) }
+        ensures shown { IfOk result (λ mode. IsShownIn E.EditorState mode state.new) }
+        ensures frame { Frame E.EditorState state.old state.new }
         ensures faults { FaultsOnly result }
     {
         match command {
@@ -168,18 +153,11 @@ impl Searching {
 
 impl Searching {
     // The term gets a character: the search goes on from the line where it stands, that line included.
-    fn extend<'out, 'prompt, O: Write + Drop, H: Helper, P: Prompt, S: History>(
-        self,
-        c: char,
-        state: &mut State<'out, 'prompt, Ansi<O, KeyQueue>, H, P, S>,
-    ) -> Result<Mode>
-        ensures takes { let e = ⟦<State<'out, 'prompt, Ansi<O, KeyQueue>, H, P, S> as EditorState>⟧
-            in IfOk result (Searches (e.environment state.old) (search_of self)
-            (SearchCmd.Extend c) (e.draft state.old) (e.draft state.new)) }
-        ensures shown { let e = ⟦<State<'out, 'prompt, Ansi<O, KeyQueue>, H, P, S> as EditorState>⟧
-            in IfOk result (λ mode. IsShownIn e mode state.new) }
-        ensures frame { let e = ⟦<State<'out, 'prompt, Ansi<O, KeyQueue>, H, P, S> as EditorState>⟧
-            in Frame e state.old state.new }
+    fn extend<E: Modal>(self, c: char, state: &mut E) -> Result<Mode>
+        ensures takes { IfOk result (Searches (E.environment state.old) (search_of self)
+            (SearchCmd.Extend c) (E.draft state.old) (E.draft state.new)) }
+        ensures shown { IfOk result (λ mode. IsShownIn E.EditorState mode state.new) }
+        ensures frame { Frame E.EditorState state.old state.new }
         ensures faults { FaultsOnly result }
     {
         let alloc = *self.shorter.allocator();
@@ -208,17 +186,11 @@ impl Searching {
     }
 
     // The term loses its last character: the search stands where it stood with the shorter one. The empty term stays.
-    fn shorten<'out, 'prompt, O: Write + Drop, H: Helper, P: Prompt, S: History>(
-        self,
-        state: &mut State<'out, 'prompt, Ansi<O, KeyQueue>, H, P, S>,
-    ) -> Result<Mode>
-        ensures takes { let e = ⟦<State<'out, 'prompt, Ansi<O, KeyQueue>, H, P, S> as EditorState>⟧
-            in IfOk result (Searches (e.environment state.old) (search_of self)
-            SearchCmd.Shorten (e.draft state.old) (e.draft state.new)) }
-        ensures shown { let e = ⟦<State<'out, 'prompt, Ansi<O, KeyQueue>, H, P, S> as EditorState>⟧
-            in IfOk result (λ mode. IsShownIn e mode state.new) }
-        ensures frame { let e = ⟦<State<'out, 'prompt, Ansi<O, KeyQueue>, H, P, S> as EditorState>⟧
-            in Frame e state.old state.new }
+    fn shorten<E: Modal>(self, state: &mut E) -> Result<Mode>
+        ensures takes { IfOk result (Searches (E.environment state.old) (search_of self)
+            SearchCmd.Shorten (E.draft state.old) (E.draft state.new)) }
+        ensures shown { IfOk result (λ mode. IsShownIn E.EditorState mode state.new) }
+        ensures frame { Frame E.EditorState state.old state.new }
         ensures faults { FaultsOnly result }
     {
         let alloc = *self.shorter.allocator();
@@ -244,18 +216,11 @@ impl Searching {
     }
 
     // The search goes on in a direction, from the line beside the one where it stands.
-    fn go_on<'out, 'prompt, O: Write + Drop, H: Helper, P: Prompt, S: History>(
-        self,
-        direction: SearchDirection,
-        state: &mut State<'out, 'prompt, Ansi<O, KeyQueue>, H, P, S>,
-    ) -> Result<Mode>
-        ensures goes { let e = ⟦<State<'out, 'prompt, Ansi<O, KeyQueue>, H, P, S> as EditorState>⟧
-            in IfOk result (Searches (e.environment state.old) (search_of self)
-            (SearchCmd.GoOn direction) (e.draft state.old) (e.draft state.new)) }
-        ensures shown { let e = ⟦<State<'out, 'prompt, Ansi<O, KeyQueue>, H, P, S> as EditorState>⟧
-            in IfOk result (λ mode. IsShownIn e mode state.new) }
-        ensures frame { let e = ⟦<State<'out, 'prompt, Ansi<O, KeyQueue>, H, P, S> as EditorState>⟧
-            in Frame e state.old state.new }
+    fn go_on<E: Modal>(self, direction: SearchDirection, state: &mut E) -> Result<Mode>
+        ensures goes { IfOk result (Searches (E.environment state.old) (search_of self)
+            (SearchCmd.GoOn direction) (E.draft state.old) (E.draft state.new)) }
+        ensures shown { IfOk result (λ mode. IsShownIn E.EditorState mode state.new) }
+        ensures frame { Frame E.EditorState state.old state.new }
         ensures faults { FaultsOnly result }
     {
         let alloc = *self.shorter.allocator();
@@ -268,7 +233,7 @@ impl Searching {
             grown,
         } = self;
         let term = String::from_str(alloc, before.term.as_str())?;
-        let start = next_start(direction, state.history().len(), before.index);
+        let start = next_start(direction, state.history_len(), before.index);
         let now = seek(term, start, direction, &before, state)?;
         let next = Searching {
             now,
@@ -283,17 +248,11 @@ impl Searching {
     }
 
     // Gives up the search: shows the line from before, with its cursor, as the line of the history that it was.
-    fn give_up<'out, 'prompt, O: Write + Drop, H: Helper, P: Prompt, S: History>(
-        self,
-        state: &mut State<'out, 'prompt, Ansi<O, KeyQueue>, H, P, S>,
-    ) -> Result<Mode>
-        ensures gives { let e = ⟦<State<'out, 'prompt, Ansi<O, KeyQueue>, H, P, S> as EditorState>⟧
-            in IfOk result (Searches (e.environment state.old) (search_of self)
-            SearchCmd.GiveUp (e.draft state.old) (e.draft state.new)) }
-        ensures shown { let e = ⟦<State<'out, 'prompt, Ansi<O, KeyQueue>, H, P, S> as EditorState>⟧
-            in IfOk result (λ mode. IsShownIn e mode state.new) }
-        ensures frame { let e = ⟦<State<'out, 'prompt, Ansi<O, KeyQueue>, H, P, S> as EditorState>⟧
-            in Frame e state.old state.new }
+    fn give_up<E: Modal>(self, state: &mut E) -> Result<Mode>
+        ensures gives { IfOk result (Searches (E.environment state.old) (search_of self)
+            SearchCmd.GiveUp (E.draft state.old) (E.draft state.new)) }
+        ensures shown { IfOk result (λ mode. IsShownIn E.EditorState mode state.new) }
+        ensures frame { Frame E.EditorState state.old state.new }
         ensures faults { FaultsOnly result }
     {
         self.take_back(state)?;
@@ -302,19 +261,12 @@ impl Searching {
     }
 
     // Shows the line that was found, or the one from before, after the prompt of the search.
-    fn show<'out, 'prompt, O: Write + Drop, H: Helper, P: Prompt, S: History>(
-        self,
-        alloc: Global,
-        state: &mut State<'out, 'prompt, Ansi<O, KeyQueue>, H, P, S>,
-    ) -> Result<Mode>
-        ensures shows { let e = ⟦<State<'out, 'prompt, Ansi<O, KeyQueue>, H, P, S> as EditorState>⟧
-            in IfOk result (ShowsSearch (e.environment state.old) (search_of self)
-            (before_search (e.environment state.old) (search_of self) (e.draft state.old))
-            (e.draft state.new)) }
-        ensures shown { let e = ⟦<State<'out, 'prompt, Ansi<O, KeyQueue>, H, P, S> as EditorState>⟧
-            in IfOk result (λ mode. IsShownIn e mode state.new) }
-        ensures frame { let e = ⟦<State<'out, 'prompt, Ansi<O, KeyQueue>, H, P, S> as EditorState>⟧
-            in Frame e state.old state.new }
+    fn show<E: Modal>(self, alloc: Global, state: &mut E) -> Result<Mode>
+        ensures shows { IfOk result (ShowsSearch (E.environment state.old) (search_of self)
+            (before_search (E.environment state.old) (search_of self) (E.draft state.old))
+            (E.draft state.new)) }
+        ensures shown { IfOk result (λ mode. IsShownIn E.EditorState mode state.new) }
+        ensures frame { Frame E.EditorState state.old state.new }
         ensures faults { FaultsOnly result }
     {
         self.take_back(state)?;
@@ -340,15 +292,10 @@ impl Searching {
     }
 
     // Puts the line from before in place of the one that is shown, with its cursor, as the line of the history that it was.
-    fn take_back<'out, 'prompt, O: Write + Drop, H: Helper, P: Prompt, S: History>(
-        &self,
-        state: &mut State<'out, 'prompt, Ansi<O, KeyQueue>, H, P, S>,
-    ) -> Result<()>
-        ensures draft { let e = ⟦<State<'out, 'prompt, Ansi<O, KeyQueue>, H, P, S> as EditorState>⟧
-            in OnOk result (e.draft state.new ≡ before_search (e.environment state.old)
-            (search_of self.entry.now) (e.draft state.old)) }
-        ensures still { let e = ⟦<State<'out, 'prompt, Ansi<O, KeyQueue>, H, P, S> as EditorState>⟧
-            in Undrawn e state.old state.new }
+    fn take_back<E: Modal>(&self, state: &mut E) -> Result<()>
+        ensures draft { OnOk result (E.draft state.new ≡ before_search (E.environment state.old)
+            (search_of self.entry.now) (E.draft state.old)) }
+        ensures still { Undrawn E.EditorState state.old state.new }
         ensures memory { MemoryOnly result }
     {
         if self.grown {
@@ -362,19 +309,12 @@ impl Searching {
     ///
     /// # Errors
     /// Those of the helper and of the output: `Io` and `Memory`.
-    pub(crate) fn draw<'out, 'prompt, O: Write + Drop, H: Helper, P: Prompt, S: History>(
-        &self,
-        alloc: Global,
-        state: &mut State<'out, 'prompt, Ansi<O, KeyQueue>, H, P, S>,
-    ) -> Result<()>
-        ensures draft { let e = ⟦<State<'out, 'prompt, Ansi<O, KeyQueue>, H, P, S> as EditorState>⟧
-            in OnOk result (e.draft state.new
-            ≡ hinted (e.environment state.old) (e.draft state.old)) }
-        ensures drawn { let e = ⟦<State<'out, 'prompt, Ansi<O, KeyQueue>, H, P, S> as EditorState>⟧
-            in OnOk result (IsShownBehind (search_prompt (aim_of self.entry.now.now))
-            (e.display state.new) (e.draft state.new)) }
-        ensures frame { let e = ⟦<State<'out, 'prompt, Ansi<O, KeyQueue>, H, P, S> as EditorState>⟧
-            in Frame e state.old state.new }
+    pub(crate) fn draw<E: Modal>(&self, alloc: Global, state: &mut E) -> Result<()>
+        ensures draft { OnOk result (E.draft state.new ≡ hinted (E.environment state.old)
+            (E.draft state.old)) }
+        ensures drawn { OnOk result (IsShownBehind (search_prompt (aim_of self.entry.now.now))
+            (E.display state.new) (E.draft state.new)) }
+        ensures frame { Frame E.EditorState state.old state.new }
         ensures faults { FaultsOnly result }
     {
         let prompt = self.now.prompt(alloc)?;
@@ -385,18 +325,12 @@ impl Searching {
 impl Sought {
     // Puts the line that was found in the line's place, with the cursor where the term begins. Returns whether the changes have
     // grown by it.
-    fn put<'out, 'prompt, O: Write + Drop, H: Helper, P: Prompt, S: History>(
-        &self,
-        state: &mut State<'out, 'prompt, Ansi<O, KeyQueue>, H, P, S>,
-    ) -> Result<bool>
-        ensures draft { let e = ⟦<State<'out, 'prompt, Ansi<O, KeyQueue>, H, P, S> as EditorState>⟧
-            in OnOk result (e.draft state.new
-            ≡ aim_put (e.environment state.old) (aim_of self.now) (e.draft state.old)) }
-        ensures grown { let e = ⟦<State<'out, 'prompt, Ansi<O, KeyQueue>, H, P, S> as EditorState>⟧
-            in IfOk result (λ grown. grown
-            ≡ grown_by (e.environment state.old) (aim_of self.now) (e.draft state.old)) }
-        ensures still { let e = ⟦<State<'out, 'prompt, Ansi<O, KeyQueue>, H, P, S> as EditorState>⟧
-            in Undrawn e state.old state.new }
+    fn put<E: Modal>(&self, state: &mut E) -> Result<bool>
+        ensures draft { OnOk result (E.draft state.new ≡ aim_put (E.environment state.old)
+            (aim_of self.now) (E.draft state.old)) }
+        ensures grown { IfOk result (λ grown. grown ≡ grown_by (E.environment state.old)
+            (aim_of self.now) (E.draft state.old)) }
+        ensures still { Undrawn E.EditorState state.old state.new }
         ensures faults { FaultsOnly result }
     {
         match self.pos {
@@ -424,23 +358,22 @@ impl Sought {
 
 // Returns where a search for a term stands that goes on from a line, that line included: where it finds one, there, and else where
 // it stood before.
-fn seek<'out, 'prompt, O: Write + Drop, H: Helper, P: Prompt, S: History>(
+fn seek<E: Modal>(
     term: String,
     start: Option<usize>,
     direction: SearchDirection,
     before: &Sought,
-    state: &State<'out, 'prompt, Ansi<O, KeyQueue>, H, P, S>,
+    state: &E,
 ) -> Result<Sought>
-    ensures seeks { let e = ⟦<State<'out, 'prompt, Ansi<O, KeyQueue>, H, P, S> as EditorState>⟧ in
-        IfOk result (λ now. aim_of now ≡ aimed (string_bytes term) (aim_of before.now)
-        (option_and_then (λ start. search_in (e.environment state.now).lines
-        (string_bytes term) start direction) start)) }
+    ensures seeks { IfOk result (λ now. aim_of now ≡ aimed (string_bytes term) (aim_of before.now)
+        (option_and_then (λ start. search_in (E.environment state.now).lines (string_bytes term)
+        start direction) start)) }
     ensures faults { FaultsOnly result }
 {
     let Some(start) = start else {
         return Ok(failed(term, before));
     };
-    let Some(found) = state.history().search(term.as_str(), start, direction)? else {
+    let Some(found) = state.search_history(term.as_str(), start, direction)? else {
         return Ok(failed(term, before));
     };
     let (index, pos) = (found.idx, found.pos);

@@ -4,26 +4,25 @@ ghost use Rattle.line_config.specs.Error.{FaultsOnly};
 ghost use Rattle.line_config.specs.Settings.{Settings};
 ghost use Rattle.line_editor.specs.InputState.{input_of, keys_of};
 ghost use Rattle.line_editor.specs.Keymap.{Keymap};
-ghost use Rattle.line_editor.specs.Outcomes.{editor_of, session};
+ghost use Rattle.line_editor.specs.Outcomes.{AnswersAs, editor_of, session};
 ghost use Rattle.line_editor.specs.Reading.{KeepsReading};
-ghost use Rattle.line_editor.specs.Run.{kills_before};
 ghost use Rattle.line_keys.specs.Command.{command_of};
 ghost use Rattle.line_keys.specs.Draft.{hinted};
 ghost use Rattle.line_keys.specs.Frame.{Frame};
 ghost use Rattle.line_keys.specs.Item.{Item};
 ghost use Rattle.line_session.specs.Searching.{search_cmd, search_of};
 ghost use Rattle.line_session.specs.Steps.{Answers, DoesInSearch, comes_in, shows_line, reads_no_command};
-ghost use Rattle.line_session.specs.Taken.{AnswersAs, ComesTo, DrawnBehind, DrawnOnce, IsShown, IsShownIn, IsShownWith, KeepsRules, PutsIn, TakesAsItIs, TakesItem, TakesOne, is_settled, item_of, rules_by, rules_of, standing_of, start_of};
+ghost use Rattle.line_session.specs.Taken.{ComesTo, DrawnBehind, DrawnOnce, IsShown, IsShownIn, IsShownWith, KeepsRules, PutsIn, TakesAsItIs, TakesItem, TakesOne, is_settled, item_of, rules_by, rules_of, standing_of, start_of};
 
 use crate::completing::complete;
 use crate::listing::list;
+use crate::modal::{Line, Modal};
 use crate::mode::{AsItIs, Mode};
 use crate::searching::{SearchCmd, Searching, search};
 use line_buffer::KillRing;
 use line_config::{Config, Prompt, ReadlineError, Result};
 use line_editor::binding::ConditionalEventHandler;
-use line_editor::edit::State;
-use line_editor::{InputState, Left, Status, Turned, execute, take_turn};
+use line_editor::{InputState, Left, Turned, do_turn, execute, read_turn, take_turn};
 use line_keys::cmd::Cmd;
 use line_keys::editor_state::EditorState;
 use line_keys::raw_reader::RawReader;
@@ -31,7 +30,6 @@ use line_keys::refresher::Refresher;
 use line_parts::history::SearchDirection;
 use line_parts::{Helper, History};
 use line_screen::KeyQueue;
-use line_term::Ansi;
 use std::alloc::Global;
 use std::io::Write;
 use std::mem;
@@ -59,26 +57,26 @@ pub(crate) fn take_turns<
     alloc: Global,
     draws: bool,
     mode: &mut Mode,
-    state: &mut State<'out, 'prompt, Ansi<O, KeyQueue>, H, P, S>,
+    state: &mut Line<'out, 'prompt, O, H, P, S>,
     input_state: &mut InputState<'_, C>,
     keys: &mut KeyQueue,
     kill_ring: &mut KillRing,
     config: &Config,
 ) -> Result<Turned>
-    requires shown { let e = ⟦<State<'out, 'prompt, Ansi<O, KeyQueue>, H, P, S> as EditorState>⟧ in
+    requires shown { let e = ⟦<Line<'out, 'prompt, O, H, P, S> as EditorState>⟧ in
         draws ≡ false → IsShownWith e mode.old keys.old.rest state.old }
     ensures comes { let k = keys_of C.ConditionalEventHandler in
-        let e = ⟦<State<'out, 'prompt, Ansi<O, KeyQueue>, H, P, S> as EditorState>⟧ in
+        let e = ⟦<Line<'out, 'prompt, O, H, P, S> as EditorState>⟧ in
         let r = ⟦<KeyQueue as RawReader>⟧ in
         let before = session state.old (k input_state.old) keys.old kill_ring.old in
         let after = session state.new (k input_state.new) keys.new kill_ring.new in
         IfOk result (ComesTo (is_settled mode.new (e.display state.new).layout.default_prompt)
         (rules_of e r config.now before)
         (start_of e r draws mode.old before) (standing_of e r mode.new after)) }
-    ensures drawn { let e = ⟦<State<'out, 'prompt, Ansi<O, KeyQueue>, H, P, S> as EditorState>⟧ in
+    ensures drawn { let e = ⟦<Line<'out, 'prompt, O, H, P, S> as EditorState>⟧ in
         IfOk result (λ turned. DrawnOnce e mode.new keys.new.rest turned state.new) }
     ensures keeps { let k = keys_of C.ConditionalEventHandler in
-        KeepsRules ⟦<State<'out, 'prompt, Ansi<O, KeyQueue>, H, P, S> as EditorState>⟧
+        KeepsRules ⟦<Line<'out, 'prompt, O, H, P, S> as EditorState>⟧
         ⟦<KeyQueue as RawReader>⟧
         (session state.old (k input_state.old) keys.old kill_ring.old)
         (session state.new (k input_state.new) keys.new kill_ring.new) }
@@ -101,19 +99,14 @@ pub(crate) fn take_turns<
 ///
 /// # Errors
 /// Those of the helper and of the output: `Io` and `Memory`.
-fn resume<'out, 'prompt, O: Write + Drop, H: Helper, P: Prompt, S: History>(
-    alloc: Global,
-    state: &mut State<'out, 'prompt, Ansi<O, KeyQueue>, H, P, S>,
-) -> Result<()>
-    ensures draft { let e = ⟦<State<'out, 'prompt, Ansi<O, KeyQueue>, H, P, S> as EditorState>⟧ in
-        OnOk result (e.draft state.new ≡ hinted (e.environment state.old) (e.draft state.old)) }
-    ensures shown { let e = ⟦<State<'out, 'prompt, Ansi<O, KeyQueue>, H, P, S> as EditorState>⟧ in
-        OnOk result (IsShown e state.new) }
-    ensures frame { let e = ⟦<State<'out, 'prompt, Ansi<O, KeyQueue>, H, P, S> as EditorState>⟧ in
-        Frame e state.old state.new }
+fn resume<E: Modal>(alloc: Global, state: &mut E) -> Result<()>
+    ensures draft { OnOk result (E.draft state.new ≡ hinted (E.environment state.old)
+        (E.draft state.old)) }
+    ensures shown { OnOk result (IsShown E.EditorState state.new) }
+    ensures frame { Frame E.EditorState state.old state.new }
     ensures faults { FaultsOnly result }
 {
-    state.move_cursor_at_leftmost(&mut KeyQueue::new(alloc))?;
+    state.move_cursor_at_leftmost(alloc)?;
     state.refresh_line()
 }
 
@@ -121,17 +114,11 @@ fn resume<'out, 'prompt, O: Write + Drop, H: Helper, P: Prompt, S: History>(
 ///
 /// # Errors
 /// Those of the helper and of the output: `Io` and `Memory`.
-fn draw<'out, 'prompt, O: Write + Drop, H: Helper, P: Prompt, S: History>(
-    alloc: Global,
-    mode: &Mode,
-    state: &mut State<'out, 'prompt, Ansi<O, KeyQueue>, H, P, S>,
-) -> Result<()>
-    ensures draft { let e = ⟦<State<'out, 'prompt, Ansi<O, KeyQueue>, H, P, S> as EditorState>⟧ in
-        OnOk result (e.draft state.new ≡ hinted (e.environment state.old) (e.draft state.old)) }
-    ensures shown { let e = ⟦<State<'out, 'prompt, Ansi<O, KeyQueue>, H, P, S> as EditorState>⟧ in
-        OnOk result (IsShownIn e mode.now state.new) }
-    ensures frame { let e = ⟦<State<'out, 'prompt, Ansi<O, KeyQueue>, H, P, S> as EditorState>⟧ in
-        Frame e state.old state.new }
+fn draw<E: Modal>(alloc: Global, mode: &Mode, state: &mut E) -> Result<()>
+    ensures draft { OnOk result (E.draft state.new ≡ hinted (E.environment state.old)
+        (E.draft state.old)) }
+    ensures shown { OnOk result (IsShownIn E.EditorState mode.now state.new) }
+    ensures frame { Frame E.EditorState state.old state.new }
     ensures faults { FaultsOnly result }
 {
     match mode {
@@ -152,26 +139,26 @@ fn turns<
 >(
     alloc: Global,
     mode: &mut Mode,
-    state: &mut State<'out, 'prompt, Ansi<O, KeyQueue>, H, P, S>,
+    state: &mut Line<'out, 'prompt, O, H, P, S>,
     input_state: &mut InputState<'_, C>,
     keys: &mut KeyQueue,
     kill_ring: &mut KillRing,
     config: &Config,
 ) -> Result<Turned>
-    requires { let e = ⟦<State<'out, 'prompt, Ansi<O, KeyQueue>, H, P, S> as EditorState>⟧ in
+    requires { let e = ⟦<Line<'out, 'prompt, O, H, P, S> as EditorState>⟧ in
         IsShownWith e mode.old keys.old.rest state.old }
     ensures comes { let k = keys_of C.ConditionalEventHandler in
-        let e = ⟦<State<'out, 'prompt, Ansi<O, KeyQueue>, H, P, S> as EditorState>⟧ in
+        let e = ⟦<Line<'out, 'prompt, O, H, P, S> as EditorState>⟧ in
         let r = ⟦<KeyQueue as RawReader>⟧ in
         let before = session state.old (k input_state.old) keys.old kill_ring.old in
         let after = session state.new (k input_state.new) keys.new kill_ring.new in
         IfOk result (ComesTo (is_settled mode.new (e.display state.new).layout.default_prompt)
         (rules_of e r config.now before)
         (standing_of e r mode.old before) (standing_of e r mode.new after)) }
-    ensures drawn { let e = ⟦<State<'out, 'prompt, Ansi<O, KeyQueue>, H, P, S> as EditorState>⟧ in
+    ensures drawn { let e = ⟦<Line<'out, 'prompt, O, H, P, S> as EditorState>⟧ in
         IfOk result (λ turned. DrawnOnce e mode.new keys.new.rest turned state.new) }
     ensures keeps { let k = keys_of C.ConditionalEventHandler in
-        KeepsRules ⟦<State<'out, 'prompt, Ansi<O, KeyQueue>, H, P, S> as EditorState>⟧
+        KeepsRules ⟦<Line<'out, 'prompt, O, H, P, S> as EditorState>⟧
         ⟦<KeyQueue as RawReader>⟧
         (session state.old (k input_state.old) keys.old kill_ring.old)
         (session state.new (k input_state.new) keys.new kill_ring.new) }
@@ -247,27 +234,27 @@ fn turn<
 >(
     alloc: Global,
     mode: Mode,
-    state: &mut State<'out, 'prompt, Ansi<O, KeyQueue>, H, P, S>,
+    state: &mut Line<'out, 'prompt, O, H, P, S>,
     input_state: &mut InputState<'_, C>,
     keys: &mut KeyQueue,
     kill_ring: &mut KillRing,
     config: &Config,
 ) -> Result<(Turned, Mode)>
     requires reads { reads_no_command mode ≡ false }
-    requires shown { let e = ⟦<State<'out, 'prompt, Ansi<O, KeyQueue>, H, P, S> as EditorState>⟧ in
+    requires shown { let e = ⟦<Line<'out, 'prompt, O, H, P, S> as EditorState>⟧ in
         IsShownWith e mode keys.old.rest state.old }
     ensures takes { let k = keys_of C.ConditionalEventHandler in
-        let e = ⟦<State<'out, 'prompt, Ansi<O, KeyQueue>, H, P, S> as EditorState>⟧ in
+        let e = ⟦<Line<'out, 'prompt, O, H, P, S> as EditorState>⟧ in
         let r = ⟦<KeyQueue as RawReader>⟧ in
         IfOk result (λ done. TakesOne e r config.now mode
         (session state.old (k input_state.old) keys.old kill_ring.old) done.0 done.1
         (session state.new (k input_state.new) keys.new kill_ring.new)) }
-    ensures drawn { let e = ⟦<State<'out, 'prompt, Ansi<O, KeyQueue>, H, P, S> as EditorState>⟧ in
+    ensures drawn { let e = ⟦<Line<'out, 'prompt, O, H, P, S> as EditorState>⟧ in
         IfOk result (λ done. DrawnBehind e keys.old.rest done.1 done.0 state.new) }
     ensures fewer { IfOk result (λ done. done.0 ≡ Turned.Proceeds
         → length keys.new.rest < length keys.old.rest) }
     ensures keeps { let k = keys_of C.ConditionalEventHandler in
-        KeepsReading ⟦<State<'out, 'prompt, Ansi<O, KeyQueue>, H, P, S> as EditorState>⟧
+        KeepsReading ⟦<Line<'out, 'prompt, O, H, P, S> as EditorState>⟧
         ⟦<KeyQueue as RawReader>⟧ state.old (k input_state.old) keys.old
         state.new (k input_state.new) keys.new }
     ensures faults { FaultsOnly result }
@@ -299,7 +286,7 @@ fn edit_turn<
 >(
     alloc: Global,
     mode: Mode,
-    state: &mut State<'out, 'prompt, Ansi<O, KeyQueue>, H, P, S>,
+    state: &mut Line<'out, 'prompt, O, H, P, S>,
     input_state: &mut InputState<'_, C>,
     keys: &mut KeyQueue,
     kill_ring: &mut KillRing,
@@ -307,20 +294,20 @@ fn edit_turn<
 ) -> Result<(Turned, Mode)>
     requires reads { reads_no_command mode ≡ false }
     requires edits { shows_line mode ≡ true }
-    requires shown { let e = ⟦<State<'out, 'prompt, Ansi<O, KeyQueue>, H, P, S> as EditorState>⟧ in
+    requires shown { let e = ⟦<Line<'out, 'prompt, O, H, P, S> as EditorState>⟧ in
         IsShown e state.old }
     ensures takes { let k = keys_of C.ConditionalEventHandler in
-        let e = ⟦<State<'out, 'prompt, Ansi<O, KeyQueue>, H, P, S> as EditorState>⟧ in
+        let e = ⟦<Line<'out, 'prompt, O, H, P, S> as EditorState>⟧ in
         let r = ⟦<KeyQueue as RawReader>⟧ in
         IfOk result (λ done. TakesOne e r config.now mode
         (session state.old (k input_state.old) keys.old kill_ring.old) done.0 done.1
         (session state.new (k input_state.new) keys.new kill_ring.new)) }
-    ensures drawn { let e = ⟦<State<'out, 'prompt, Ansi<O, KeyQueue>, H, P, S> as EditorState>⟧ in
+    ensures drawn { let e = ⟦<Line<'out, 'prompt, O, H, P, S> as EditorState>⟧ in
         IfOk result (λ done. DrawnBehind e keys.old.rest done.1 done.0 state.new) }
     ensures fewer { IfOk result (λ done. done.0 ≡ Turned.Proceeds
         → length keys.new.rest < length keys.old.rest) }
     ensures keeps { let k = keys_of C.ConditionalEventHandler in
-        KeepsReading ⟦<State<'out, 'prompt, Ansi<O, KeyQueue>, H, P, S> as EditorState>⟧
+        KeepsReading ⟦<Line<'out, 'prompt, O, H, P, S> as EditorState>⟧
         ⟦<KeyQueue as RawReader>⟧ state.old (k input_state.old) keys.old
         state.new (k input_state.new) keys.new }
     ensures faults { FaultsOnly result }
@@ -349,38 +336,35 @@ fn search_turn<
 >(
     alloc: Global,
     searching: Searching,
-    state: &mut State<'out, 'prompt, Ansi<O, KeyQueue>, H, P, S>,
+    state: &mut Line<'out, 'prompt, O, H, P, S>,
     input_state: &mut InputState<'_, C>,
     keys: &mut KeyQueue,
     kill_ring: &mut KillRing,
     config: &Config,
 ) -> Result<(Turned, Mode)>
     requires reads { reads_no_command (Mode.Searching searching) ≡ false }
-    requires shown { let e = ⟦<State<'out, 'prompt, Ansi<O, KeyQueue>, H, P, S> as EditorState>⟧ in
+    requires shown { let e = ⟦<Line<'out, 'prompt, O, H, P, S> as EditorState>⟧ in
         IsShownWith e (Mode.Searching searching) keys.old.rest state.old }
     ensures takes { let k = keys_of C.ConditionalEventHandler in
-        let e = ⟦<State<'out, 'prompt, Ansi<O, KeyQueue>, H, P, S> as EditorState>⟧ in
+        let e = ⟦<Line<'out, 'prompt, O, H, P, S> as EditorState>⟧ in
         let r = ⟦<KeyQueue as RawReader>⟧ in
         IfOk result (λ done. TakesOne e r config.now (Mode.Searching searching)
         (session state.old (k input_state.old) keys.old kill_ring.old) done.0 done.1
         (session state.new (k input_state.new) keys.new kill_ring.new)) }
-    ensures drawn { let e = ⟦<State<'out, 'prompt, Ansi<O, KeyQueue>, H, P, S> as EditorState>⟧ in
+    ensures drawn { let e = ⟦<Line<'out, 'prompt, O, H, P, S> as EditorState>⟧ in
         IfOk result (λ done. DrawnBehind e keys.old.rest done.1 done.0 state.new) }
     ensures fewer { IfOk result (λ done. done.0 ≡ Turned.Proceeds
         → length keys.new.rest < length keys.old.rest) }
     ensures keeps { let k = keys_of C.ConditionalEventHandler in
-        KeepsReading ⟦<State<'out, 'prompt, Ansi<O, KeyQueue>, H, P, S> as EditorState>⟧
+        KeepsReading ⟦<Line<'out, 'prompt, O, H, P, S> as EditorState>⟧
         ⟦<KeyQueue as RawReader>⟧ state.old (k input_state.old) keys.old
         state.new (k input_state.new) keys.new }
     ensures faults { FaultsOnly result }
     ensures ring { kill_ring.new.size ≡ kill_ring.old.size }
 {
-    let command = match state.next_cmd(input_state, keys, true) {
-        Ok(command) => command,
-        Err(ReadlineError::Eof) => return Ok((Turned::NeedsMore, Mode::Searching(searching))),
-        Err(error) => return Err(error),
+    let Some(command) = read_turn(state, input_state, keys, kill_ring, true)? else {
+        return Ok((Turned::NeedsMore, Mode::Searching(searching)));
     };
-    reset_kills(&command, kill_ring);
     let (turned, next) = do_in_search(
         alloc,
         searching,
@@ -391,16 +375,6 @@ fn search_turn<
         config,
     )?;
     Ok((turned, next))
-}
-
-/// Resets the kill ring where a command says so.
-fn reset_kills(command: &Cmd, kill_ring: &mut KillRing)
-    ensures reset { kill_ring.new ≡ kills_before (command_of command.now) kill_ring.old }
-    ensures ring { kill_ring.new.size ≡ kill_ring.old.size }
-{
-    if command.should_reset_kill_ring() {
-        kill_ring.reset();
-    }
 }
 
 /// Does what a command says to a search; another one ends it, and is executed. Returns how the turn ended, and what the next items
@@ -417,21 +391,21 @@ fn do_in_search<
     alloc: Global,
     searching: Searching,
     command: Cmd,
-    state: &mut State<'out, 'prompt, Ansi<O, KeyQueue>, H, P, S>,
+    state: &mut Line<'out, 'prompt, O, H, P, S>,
     input_state: &InputState<'_, C>,
     kill_ring: &mut KillRing,
     config: &Config,
 ) -> Result<(Turned, Mode)>
-    ensures does { let e = ⟦<State<'out, 'prompt, Ansi<O, KeyQueue>, H, P, S> as EditorState>⟧ in
+    ensures does { let e = ⟦<Line<'out, 'prompt, O, H, P, S> as EditorState>⟧ in
         (keymap : Keymap) → IfOk result (λ done. AnswersAs done.0 (DoesInSearch
         (rules_by e keymap config.now state.old) (search_of searching)
         (search_cmd (command_of command)) (command_of command) (input_of input_state.now)
         (editor_of e state.old kill_ring.old) (editor_of e state.new kill_ring.new) done.1)) }
-    ensures drawn { let e = ⟦<State<'out, 'prompt, Ansi<O, KeyQueue>, H, P, S> as EditorState>⟧ in
+    ensures drawn { let e = ⟦<Line<'out, 'prompt, O, H, P, S> as EditorState>⟧ in
         (items : List Item) → IfOk result (λ done.
         DrawnBehind e items done.1 done.0 state.new) }
     ensures mode { IfOk result (λ done. done.0 ≡ Turned.Proceeds ⊎ done.1 ≡ Mode.Editing) }
-    ensures frame { let e = ⟦<State<'out, 'prompt, Ansi<O, KeyQueue>, H, P, S> as EditorState>⟧ in
+    ensures frame { let e = ⟦<Line<'out, 'prompt, O, H, P, S> as EditorState>⟧ in
         Frame e state.old state.new }
     ensures faults { FaultsOnly result }
     ensures ring { kill_ring.new.size ≡ kill_ring.old.size }
@@ -440,16 +414,13 @@ fn do_in_search<
         return Ok((Turned::Proceeds, searching.take(says, state)?));
     }
     state.refresh_line()?;
-    let left = Left::by(&command);
-    match execute(command, state, input_state, kill_ring, config) {
-        Ok(Status::Proceed) => {
+    let (turned, left) = do_turn(command, state, input_state, kill_ring, config)?;
+    match turned {
+        Turned::Proceeds => {
             let next = answer(alloc, left, Mode::Editing, state, config)?;
             Ok((Turned::Proceeds, next))
         }
-        Ok(Status::Submit) => Ok((Turned::Submitted, Mode::Editing)),
-        Err(ReadlineError::Eof) => Ok((Turned::Ended, Mode::Editing)),
-        Err(ReadlineError::Interrupted) => Ok((Turned::Interrupted, Mode::Editing)),
-        Err(error) => Err(error),
+        _ => Ok((turned, Mode::Editing)),
     }
 }
 
@@ -459,22 +430,18 @@ fn do_in_search<
 ///
 /// # Errors
 /// Those of the helper and of the output: `Io` and `Memory`.
-fn answer<'out, 'prompt, O: Write + Drop, H: Helper, P: Prompt, S: History>(
+fn answer<E: Modal>(
     alloc: Global,
     left: Option<Left>,
     mode: Mode,
-    state: &mut State<'out, 'prompt, Ansi<O, KeyQueue>, H, P, S>,
+    state: &mut E,
     config: &Config,
 ) -> Result<Mode>
-    requires { let e = ⟦<State<'out, 'prompt, Ansi<O, KeyQueue>, H, P, S> as EditorState>⟧ in
-        IsShown e state.old }
-    ensures answers { let e = ⟦<State<'out, 'prompt, Ansi<O, KeyQueue>, H, P, S> as EditorState>⟧ in
-        IfOk result (Answers config.now (e.environment state.old) left mode
-        (e.draft state.old) (e.draft state.new)) }
-    ensures shown { let e = ⟦<State<'out, 'prompt, Ansi<O, KeyQueue>, H, P, S> as EditorState>⟧ in
-        IfOk result (λ mode. IsShownIn e mode state.new) }
-    ensures frame { let e = ⟦<State<'out, 'prompt, Ansi<O, KeyQueue>, H, P, S> as EditorState>⟧ in
-        Frame e state.old state.new }
+    requires { IsShown E.EditorState state.old }
+    ensures answers { IfOk result (Answers config.now (E.environment state.old) left mode
+        (E.draft state.old) (E.draft state.new)) }
+    ensures shown { IfOk result (λ mode. IsShownIn E.EditorState mode state.new) }
+    ensures frame { Frame E.EditorState state.old state.new }
     ensures faults { FaultsOnly result }
 {
     let Some(left) = left else {
@@ -495,20 +462,12 @@ fn answer<'out, 'prompt, O: Write + Drop, H: Helper, P: Prompt, S: History>(
 }
 
 /// Begins a completion, or goes on with one: shows its next candidate, or lists the candidates that it offered.
-fn complete_on<'out, 'prompt, O: Write + Drop, H: Helper, P: Prompt, S: History>(
-    mode: Mode,
-    state: &mut State<'out, 'prompt, Ansi<O, KeyQueue>, H, P, S>,
-    config: &Config,
-) -> Result<Mode>
-    requires { let e = ⟦<State<'out, 'prompt, Ansi<O, KeyQueue>, H, P, S> as EditorState>⟧ in
-        IsShown e state.old }
-    ensures answers { let e = ⟦<State<'out, 'prompt, Ansi<O, KeyQueue>, H, P, S> as EditorState>⟧ in
-        IfOk result (Answers config.now (e.environment state.old) (Some Left.Complete) mode
-        (e.draft state.old) (e.draft state.new)) }
-    ensures shown { let e = ⟦<State<'out, 'prompt, Ansi<O, KeyQueue>, H, P, S> as EditorState>⟧ in
-        IfOk result (λ mode. IsShownIn e mode state.new) }
-    ensures frame { let e = ⟦<State<'out, 'prompt, Ansi<O, KeyQueue>, H, P, S> as EditorState>⟧ in
-        Frame e state.old state.new }
+fn complete_on<E: Modal>(mode: Mode, state: &mut E, config: &Config) -> Result<Mode>
+    requires { IsShown E.EditorState state.old }
+    ensures answers { IfOk result (Answers config.now (E.environment state.old) (Some Left.Complete)
+        mode (E.draft state.old) (E.draft state.new)) }
+    ensures shown { IfOk result (λ mode. IsShownIn E.EditorState mode state.new) }
+    ensures frame { Frame E.EditorState state.old state.new }
     ensures faults { FaultsOnly result }
 {
     match mode {
@@ -519,19 +478,13 @@ fn complete_on<'out, 'prompt, O: Write + Drop, H: Helper, P: Prompt, S: History>
 }
 
 /// Gives a completion up, or beeps where there is none.
-fn give_up<'out, 'prompt, O: Write + Drop, H: Helper, P: Prompt, S: History>(
-    mode: Mode,
-    state: &mut State<'out, 'prompt, Ansi<O, KeyQueue>, H, P, S>,
-) -> Result<Mode>
-    requires { let e = ⟦<State<'out, 'prompt, Ansi<O, KeyQueue>, H, P, S> as EditorState>⟧ in
-        IsShown e state.old }
-    ensures answers { let e = ⟦<State<'out, 'prompt, Ansi<O, KeyQueue>, H, P, S> as EditorState>⟧ in
-        (settings : Settings) → IfOk result (Answers settings (e.environment state.old)
-        (Some Left.Abort) mode (e.draft state.old) (e.draft state.new)) }
-    ensures shown { let e = ⟦<State<'out, 'prompt, Ansi<O, KeyQueue>, H, P, S> as EditorState>⟧ in
-        IfOk result (λ mode. IsShownIn e mode state.new) }
-    ensures frame { let e = ⟦<State<'out, 'prompt, Ansi<O, KeyQueue>, H, P, S> as EditorState>⟧ in
-        Frame e state.old state.new }
+fn give_up<E: Modal>(mode: Mode, state: &mut E) -> Result<Mode>
+    requires { IsShown E.EditorState state.old }
+    ensures answers { (settings : Settings) → IfOk result
+        (Answers settings (E.environment state.old) (Some Left.Abort) mode (E.draft state.old)
+        (E.draft state.new)) }
+    ensures shown { IfOk result (λ mode. IsShownIn E.EditorState mode state.new) }
+    ensures frame { Frame E.EditorState state.old state.new }
     ensures faults { FaultsOnly result }
 {
     if let Mode::Completing(going) = mode {
@@ -542,18 +495,14 @@ fn give_up<'out, 'prompt, O: Write + Drop, H: Helper, P: Prompt, S: History>(
 }
 
 /// Takes the cursor below the line, where a program writes that goes on in its place.
-fn suspend<'out, 'prompt, O: Write + Drop, H: Helper, P: Prompt, S: History>(
-    alloc: Global,
-    state: &mut State<'out, 'prompt, Ansi<O, KeyQueue>, H, P, S>,
-) -> Result<Mode>
-    ensures draft { let e = ⟦<State<'out, 'prompt, Ansi<O, KeyQueue>, H, P, S> as EditorState>⟧ in
-        IfOk result (λ mode. (e.draft state.new ≡ e.draft state.old) × (mode ≡ Mode.Suspended)) }
-    ensures frame { let e = ⟦<State<'out, 'prompt, Ansi<O, KeyQueue>, H, P, S> as EditorState>⟧ in
-        Frame e state.old state.new }
+fn suspend<E: Modal>(alloc: Global, state: &mut E) -> Result<Mode>
+    ensures draft { IfOk result (λ mode. (E.draft state.new ≡ E.draft state.old) ×
+        (mode ≡ Mode.Suspended)) }
+    ensures frame { Frame E.EditorState state.old state.new }
     ensures faults { FaultsOnly result }
 {
     state.move_cursor_to_end()?;
-    state.move_cursor_at_leftmost(&mut KeyQueue::new(alloc))?;
+    state.move_cursor_at_leftmost(alloc)?;
     Ok(Mode::Suspended)
 }
 
@@ -572,20 +521,20 @@ fn take_item<
 >(
     mode: Mode,
     item: AsItIs,
-    state: &mut State<'out, 'prompt, Ansi<O, KeyQueue>, H, P, S>,
+    state: &mut Line<'out, 'prompt, O, H, P, S>,
     input_state: &InputState<'_, C>,
     kill_ring: &mut KillRing,
     config: &Config,
 ) -> Result<Mode>
     requires taken { comes_in mode (item_of item) ≡ true }
-    requires shown { let e = ⟦<State<'out, 'prompt, Ansi<O, KeyQueue>, H, P, S> as EditorState>⟧ in
+    requires shown { let e = ⟦<Line<'out, 'prompt, O, H, P, S> as EditorState>⟧ in
         shows_line mode ≡ true → IsShown e state.old }
-    ensures takes { let e = ⟦<State<'out, 'prompt, Ansi<O, KeyQueue>, H, P, S> as EditorState>⟧ in
+    ensures takes { let e = ⟦<Line<'out, 'prompt, O, H, P, S> as EditorState>⟧ in
         IfOk result (TakesItem e config.now (input_of input_state.now) mode (item_of item)
         state.old kill_ring.old state.new kill_ring.new) }
-    ensures shown { let e = ⟦<State<'out, 'prompt, Ansi<O, KeyQueue>, H, P, S> as EditorState>⟧ in
+    ensures shown { let e = ⟦<Line<'out, 'prompt, O, H, P, S> as EditorState>⟧ in
         IfOk result (λ mode. IsShownIn e mode state.new) }
-    ensures frame { let e = ⟦<State<'out, 'prompt, Ansi<O, KeyQueue>, H, P, S> as EditorState>⟧ in
+    ensures frame { let e = ⟦<Line<'out, 'prompt, O, H, P, S> as EditorState>⟧ in
         Frame e state.old state.new }
     ensures faults { FaultsOnly result }
     ensures ring { kill_ring.new.size ≡ kill_ring.old.size }
@@ -618,19 +567,19 @@ fn put_in<
     C: ConditionalEventHandler,
 >(
     item: AsItIs,
-    state: &mut State<'out, 'prompt, Ansi<O, KeyQueue>, H, P, S>,
+    state: &mut Line<'out, 'prompt, O, H, P, S>,
     input_state: &InputState<'_, C>,
     kill_ring: &mut KillRing,
     config: &Config,
 ) -> Result<()>
-    requires { let e = ⟦<State<'out, 'prompt, Ansi<O, KeyQueue>, H, P, S> as EditorState>⟧ in
+    requires { let e = ⟦<Line<'out, 'prompt, O, H, P, S> as EditorState>⟧ in
         IsShown e state.old }
-    ensures puts { let e = ⟦<State<'out, 'prompt, Ansi<O, KeyQueue>, H, P, S> as EditorState>⟧ in
+    ensures puts { let e = ⟦<Line<'out, 'prompt, O, H, P, S> as EditorState>⟧ in
         OnOk result (PutsIn e config.now (input_of input_state.now) (item_of item)
         state.old (e.draft state.old) kill_ring.old state.new kill_ring.new) }
-    ensures shown { let e = ⟦<State<'out, 'prompt, Ansi<O, KeyQueue>, H, P, S> as EditorState>⟧ in
+    ensures shown { let e = ⟦<Line<'out, 'prompt, O, H, P, S> as EditorState>⟧ in
         OnOk result (IsShown e state.new) }
-    ensures frame { let e = ⟦<State<'out, 'prompt, Ansi<O, KeyQueue>, H, P, S> as EditorState>⟧ in
+    ensures frame { let e = ⟦<Line<'out, 'prompt, O, H, P, S> as EditorState>⟧ in
         Frame e state.old state.new }
     ensures faults { FaultsOnly result }
     ensures ring { kill_ring.new.size ≡ kill_ring.old.size }

@@ -1,18 +1,23 @@
-use Rattle.line_session.proofs.TurnLemmas.{dried_shown, dries_up, searched_so}
+use Rattle.std.proofs.Common.{refl}
+use Rattle.line_config.specs.declared.error.ReadlineError.TheVariants.{Eof}
+use Rattle.line_session.proofs.TurnLemmas.{dries_up, fewer_read, searched_so}
 use Rattle.line_session.proofs.turns.search_turn.Goals as goal
 
-pub returns-in-Err-Eof-clause-takes : goal.returns-in-Err-Eof-clause-takes
-returns-in-Err-Eof-clause-takes g c =
-    dries_up _ _ c.args.config.now c.args.searching _ _ _ _ _ _ _ _ c.in-Err-Eof.ensures c.in-Err-Eof.field-0-is
-
-pub returns-in-Err-Eof-clause-drawn : goal.returns-in-Err-Eof-clause-drawn
-returns-in-Err-Eof-clause-drawn g c =
-    dried_shown _ _ c.args.config.now c.args.searching _ _ _ _ _ _ c.args.kill_ring.now _ c.in-Err-Eof.ensures c.in-Err-Eof.field-0-is c.requires.shown
+pub returns-in_default-clause-takes : goal.returns-in_default-clause-takes
+returns-in_default-clause-takes g c =
+    let reads = rw c.in_default.is at c.in_ok-command.ensures.reads in
+    rw reads.kills_left (dries_up _ _ c.args.config.now c.args.searching _ _ _ _ _ _ _ Eof reads.read refl)
 
 pub returns-clause-takes : goal.returns-clause-takes
 returns-clause-takes g c =
-    searched_so _ _ c.args.config.now c.args.searching _ _ _ _ _ _ _ _ _ _ c.in-Ok.command c.in-Ok.ensures c.reset_kills.ensures.reset
+    let reads = rw c.in-Some.is at c.in_ok-command.ensures.reads in
+    searched_so _ _ c.args.config.now c.args.searching _ _ _ _ _ _ _ _ _ _ c.in-Some.command reads.read reads.kills_left
     c.in_ok-turned.turned c.in_ok-turned.next c.in_ok-turned.ensures.does c.in_ok-turned.ensures.mode
 
 pub returns-clause-drawn : goal.returns-clause-drawn
 returns-clause-drawn g c = c.in_ok-turned.ensures.drawn c.args.keys.now.rest
+
+pub returns-clause-fewer : goal.returns-clause-fewer
+returns-clause-fewer g c = λ _.
+    let reads = rw c.in-Some.is at c.in_ok-command.ensures.reads in
+    fewer_read _ _ _ _ _ _ _ _ c.in-Some.command reads.read

@@ -1,6 +1,7 @@
 use Rattle.std.proofs.Common.{◌≡◌, option_map, refl, subst, string_bytes}
 use Rattle.std.specs.Prelude.{OnOk}
 use Rattle.line_term.specs.Decoder.{flushed}
+use Rattle.line_editor.specs.InputState.{remembered_input}
 use Rattle.line_session.specs.Sitting.{Sitting, with_turn}
 use Rattle.line_session.proofs.CameLemmas.{turn_so}
 use Rattle.line_session.proofs.KeptLemmas.{either_way, none_left, still_fits}
@@ -9,7 +10,7 @@ use Rattle.line_session.proofs.editor.Editor.read_pause.Goals as goal
 pub returns-clause-reads : goal.returns-clause-reads
 returns-clause-reads g c =
     let old : Sitting g.row.H.Denot = record {
-      line = option_map (λ b. record { kept = b.line; input = b.input; mode = b.mode; draws = b.draws }) c.self.inside.line;
+      line = option_map (λ b. record { kept = b.line; input = remembered_input b.input; mode = b.mode; draws = b.draws }) c.self.inside.line;
       prompt = string_bytes c.self.inside.prompt.0;
       lines = g.S.History.lines c.self.inside.history;
       takes = g.S.History.rules c.self.inside.history;

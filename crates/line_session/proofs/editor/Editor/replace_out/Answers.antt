@@ -1,4 +1,5 @@
 use Rattle.std.proofs.Common.{option_map, refl, string_bytes, subst}
+use Rattle.line_editor.specs.InputState.{remembered_input}
 use Rattle.line_session.specs.Kept.{answers_of}
 use Rattle.line_session.specs.OnTerminal.{ShowsBegun}
 use Rattle.line_session.specs.Sitting.{Sitting}
@@ -9,7 +10,7 @@ pub returns-clause-shown : goal.returns-clause-shown
 returns-clause-shown g c =
     let asked = answers_of g.H.Hinter.hint_at g.H.Validator.verdict_at g.H.Highlighter.lights g.H.Completer in
     let old : Sitting g.row.H.Denot = record {
-      line = option_map (λ b. record { kept = b.line; input = b.input; mode = b.mode; draws = b.draws }) c.self.inside.line;
+      line = option_map (λ b. record { kept = b.line; input = remembered_input b.input; mode = b.mode; draws = b.draws }) c.self.inside.line;
       prompt = string_bytes c.self.inside.prompt.0;
       lines = g.S.History.lines c.self.inside.history;
       takes = g.S.History.rules c.self.inside.history;
@@ -23,5 +24,5 @@ returns-clause-shown g c =
       rows = c.self.inside.screen.shown.rows;
     } in
     subst (λ o. ShowsBegun g.O.Write.contents asked o c.replace_out.result) c.self.view_is
-    (shows_begun g.O.Write.contents asked c.replace_out.result c.self.inside.line (λ b. record { kept = b.line; input = b.input; mode = b.mode; draws = b.draws })
+    (shows_begun g.O.Write.contents asked c.replace_out.result c.self.inside.line (λ b. record { kept = b.line; input = remembered_input b.input; mode = b.mode; draws = b.draws })
     old _ _ refl refl c.self.invariant c.replace_out.ensures.shown)

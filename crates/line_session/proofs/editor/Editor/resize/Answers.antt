@@ -1,4 +1,5 @@
 use Rattle.std.proofs.Common.{Some, option_map, refl, subst, string_bytes}
+use Rattle.line_editor.specs.InputState.{remembered_input}
 use Rattle.line_session.specs.Kept.{answers_of}
 use Rattle.line_session.specs.Sitting.{Keeps, Sitting}
 use Rattle.line_session.proofs.editor.Editor.resize.Goals as goal
@@ -8,7 +9,7 @@ returns-clause-keeps g c =
     let asked = answers_of g.H.Hinter.hint_at g.H.Validator.verdict_at g.H.Highlighter.lights g.H.Completer in
     let resized = c.resized-begun in
     let old : Sitting g.row.H.Denot = record {
-      line = option_map (λ b. record { kept = b.line; input = b.input; mode = b.mode; draws = b.draws }) c.self.inside.line;
+      line = option_map (λ b. record { kept = b.line; input = remembered_input b.input; mode = b.mode; draws = b.draws }) c.self.inside.line;
       prompt = string_bytes c.self.inside.prompt.0;
       lines = g.S.History.lines c.self.inside.history;
       takes = g.S.History.rules c.self.inside.history;
@@ -22,7 +23,7 @@ returns-clause-keeps g c =
       rows = c.self.inside.screen.shown.rows;
     } in
     let new : Sitting g.row.H.Denot = record old {
-      line = Some (record { kept = resized.result.0.line; input = resized.result.0.input; mode = resized.result.0.mode; draws = resized.result.0.draws });
+      line = Some (record { kept = resized.result.0.line; input = remembered_input resized.result.0.input; mode = resized.result.0.mode; draws = resized.result.0.draws });
       helper = resized.new.helper;
       columns = resized.new.screen.shown.columns;
       rows = resized.new.screen.shown.rows;

@@ -2,6 +2,7 @@ use Rattle.std.proofs.Common.{◌∙◌, length, option_map, refl, ap, string_by
 use Rattle.line_keys.specs.Draft.{empty_draft}
 use Rattle.line_keys.specs.Display.{Surface}
 use Rattle.line_state.specs.Edited.{Edited}
+use Rattle.line_editor.specs.InputState.{remembered_input}
 use Rattle.line_session.specs.Kept.{answers_of}
 use Rattle.line_session.specs.Sitting.{BegunLine, Sitting}
 use Rattle.line_session.proofs.CameLemmas.{starts_so}
@@ -11,11 +12,11 @@ pub returns-clause-starts : goal.returns-clause-starts
 returns-clause-starts g c =
     let asked = answers_of g.H.Hinter.hint_at g.H.Validator.verdict_at g.H.Highlighter.lights g.H.Completer in
     let made = c.begin-begun in
-    let begun : BegunLine = record { kept = made.result.line; input = made.result.input; mode = made.result.mode; draws = made.result.draws } in
+    let begun : BegunLine = record { kept = made.result.line; input = remembered_input made.result.input; mode = made.result.mode; draws = made.result.draws } in
     let columns = ap (λ (s : Surface). s.columns) made.ensures.surface in
     let rows = ap (λ (s : Surface). s.rows) made.ensures.surface in
     let mid : Sitting g.row.H.Denot = record {
-      line = option_map (λ b. record { kept = b.line; input = b.input; mode = b.mode; draws = b.draws }) c.self-2.inside.line;
+      line = option_map (λ b. record { kept = b.line; input = remembered_input b.input; mode = b.mode; draws = b.draws }) c.self-2.inside.line;
       prompt = string_bytes c.self-2.inside.prompt.0;
       lines = g.S.History.lines c.self-2.inside.history;
       takes = g.S.History.rules c.self-2.inside.history;

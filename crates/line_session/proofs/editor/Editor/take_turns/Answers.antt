@@ -2,6 +2,7 @@ use Rattle.std.proofs.Common.{rules, ◌≡◌, Some, option_map, refl, ap, subs
 use Rattle.std.specs.Prelude.{IfOk}
 use Rattle.line_keys.specs.Display.{Surface}
 use Rattle.line_editor.specs.Binding.{bound_of}
+use Rattle.line_editor.specs.InputState.{remembered_input}
 use Rattle.line_session.specs.Kept.{answers_of}
 use Rattle.line_session.specs.Sitting.{BegunLine, Came, Keeps, Sitting}
 use Rattle.line_session.proofs.CameLemmas.{came_so, keeps_so}
@@ -12,7 +13,7 @@ returns-clause-came g c =
     let asked = answers_of g.H.Hinter.hint_at g.H.Validator.verdict_at g.H.Highlighter.lights g.H.Completer in
     let bound = bound_of g.C.ConditionalEventHandler c.args.bindings.now in
     let old : Sitting g.row.H.Denot = record {
-      line = option_map (λ b. record { kept = b.line; input = b.input; mode = b.mode; draws = b.draws }) c.self.inside.line;
+      line = option_map (λ b. record { kept = b.line; input = remembered_input b.input; mode = b.mode; draws = b.draws }) c.self.inside.line;
       prompt = string_bytes c.self.inside.prompt.0;
       lines = g.S.History.lines c.self.inside.history;
       takes = g.S.History.rules c.self.inside.history;
@@ -27,8 +28,8 @@ returns-clause-came g c =
     } in
     subst (λ o. (begun : BegunLine) → o.line ≡ Some begun → IfOk c.end.result (Came asked bound o begun c.end.new.self)) c.self.view_is
     (λ begun line.
-    let taken : BegunLine = record { kept = c.in-Some.begun.line; input = c.in-Some.begun.input; mode = c.in-Some.begun.mode; draws = c.in-Some.begun.draws } in
-    let kept : BegunLine = record { kept = c.go_on-begun.result.0.line; input = c.go_on-begun.result.0.input; mode = c.go_on-begun.result.0.mode; draws = c.go_on-begun.result.0.draws } in
+    let taken : BegunLine = record { kept = c.in-Some.begun.line; input = remembered_input c.in-Some.begun.input; mode = c.in-Some.begun.mode; draws = c.in-Some.begun.draws } in
+    let kept : BegunLine = record { kept = c.go_on-begun.result.0.line; input = remembered_input c.go_on-begun.result.0.input; mode = c.go_on-begun.result.0.mode; draws = c.go_on-begun.result.0.draws } in
     let same : Some taken ≡ Some begun = search rules in
     let is : taken ≡ begun = (cc) in
     subst (λ b. IfOk c.end.result (Came asked bound old b c.end.new.self)) is
@@ -40,7 +41,7 @@ returns-clause-keeps g c =
     let columns = ap (λ (s : Surface). s.columns) c.go_on-begun.ensures.surface in
     let rows = ap (λ (s : Surface). s.rows) c.go_on-begun.ensures.surface in
     let old : Sitting g.row.H.Denot = record {
-      line = option_map (λ b. record { kept = b.line; input = b.input; mode = b.mode; draws = b.draws }) c.self.inside.line;
+      line = option_map (λ b. record { kept = b.line; input = remembered_input b.input; mode = b.mode; draws = b.draws }) c.self.inside.line;
       prompt = string_bytes c.self.inside.prompt.0;
       lines = g.S.History.lines c.self.inside.history;
       takes = g.S.History.rules c.self.inside.history;

@@ -1,16 +1,12 @@
-use Rattle.std.proofs.Common.{option_map, ◌∙◌, ◌++◌, refl, ap}
+use Rattle.std.proofs.Common.{◌∙◌, ◌++◌, refl, ap}
 use Rattle.std.specs.Prelude.{encode_utf8}
-use Rattle.line_keys.specs.Draft.{Draft}
-use Rattle.line_parts.specs.Hint.{suggestion_of}
 use Rattle.line_session.specs.declared.searching.Searching.{Searching}
 use Rattle.line_session.proofs.SearchingLemmas.{extends_it}
 use Rattle.line_session.proofs.searching.Searching.extend.Goals as goal
 
 pub returns-clause-takes : goal.returns-clause-takes
 returns-clause-takes g c =
-    let state = c.args.state.now in
-    let draft : Draft = record { line = state.edited.line; saved = state.saved_line_for_history; index = state.parties.ctx.index; hint = option_map (suggestion_of g.H.Hint.Hint) state.hint; changes = state.edited.changes } in
     let old = c.args.self in
     let next : Searching = record { now = c.in_ok-now.now; shorter = c.push-2.new.self; direction = old.direction; pos = old.pos; index = old.index; grown = old.grown } in
-    extends_it _ c.args.c old next draft _ _ _ (c.in_ok-push.ensures.bytes ∙ ap (λ b. b ++ encode_utf8 c.args.c) (c.in_ok-term.ensures.ok ∙ c.as_str.ensures.value))
+    extends_it _ c.args.c old next (g.E.EditorState.draft c.args.state.now) _ _ _ (c.in_ok-push.ensures.bytes ∙ ap (λ b. b ++ encode_utf8 c.args.c) (c.in_ok-term.ensures.ok ∙ c.as_str.ensures.value))
     c.in_ok-now.ensures.seeks c.in_ok-push-2.ensures.items refl refl refl refl c.in_ok-mode.ensures.shows
