@@ -4,12 +4,12 @@ use crate::cells::{print_bytes, print_cells};
 use line_config::Result;
 use line_screen::Plain;
 use line_script::Script;
-use line_state::Renderer;
+use line_state::{Renderer, Resizable};
 use line_term::Ansi;
 use std::io::Write;
 
 /// A screen that prints what a turn did.
-pub trait Told: Renderer<Reader = Script> {
+pub trait Told: Renderer<Reader = Script> + Resizable {
     /// Prints what was written after the first `told` bytes, or what is shown; and before it that the screen was resized,
     /// where it was and this is to be printed. Returns how many bytes there are.
     fn tell<O: Write>(&self, resized: bool, told: usize, out: &mut O) -> Result<usize>;
