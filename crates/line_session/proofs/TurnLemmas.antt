@@ -35,10 +35,10 @@ use Rattle.line_editor.proofs.DrawnLemmas.{hint_trails, line_stays}
 use Rattle.line_editor.proofs.ShownLemmas.{none-last}
 use Rattle.line_editor.proofs.TurnLemmas.{needs_more}
 use Rattle.line_editor.proofs.PhraseReadLemmas.{has_item}
-use Rattle.line_session.specs.Searching.{IsShownBehind, Search, aim_of, search_cmd, search_of, search_prompt}
+use Rattle.line_session.specs.Searching.{Search, search_cmd, search_of}
 use Rattle.line_session.specs.Steps.{Answers, AnswersTurn, DoesCommand, DoesInSearch, Executes, Rules, TurnFrom, once_drawn, reads_no_command}
 use Rattle.line_session.specs.Steps as steps
-use Rattle.line_session.specs.Taken.{DrawnBehind, IsShown, IsShownWith, TakesOne, rules_by, rules_of, standing_of}
+use Rattle.line_session.specs.Taken.{DrawnBehind, IsShown, TakesOne, rules_by, rules_of, standing_of}
 use Rattle.line_session.specs.declared.mode.Mode.{Mode}
 use Rattle.line_session.specs.declared.mode.Mode.TheVariants as modes
 use Rattle.line_session.specs.declared.searching.SearchCmd.{SearchCmd}
@@ -282,13 +282,3 @@ pub dries_up : {X Y : Type 0} (e : editors.Ghosts X) (r : readers.Ghosts Y) (set
 dries_up e r settings searching old new keys keys' reader reader' kills f read eof =
     let done = needs_more e r old new keys keys' settings.indent_size reader reader' kills f read eof in
     (done.turned, refl)
-
--- and where there was none the search is shown as before
-pub dried_shown : {X Y : Type 0} (e : editors.Ghosts X) (r : readers.Ghosts Y) (settings : Settings) (searching : Searching) (old new : X) (keys keys' : KeyState) (reader reader' : Y) (kills : Ring) (f : ReadlineError)
-    → ReadsCommand e r grouped (Err f) old keys reader new keys' reader' → f ≡ Eof → IsShownWith e (modes.Searching searching) (r.rest reader) old
-    → DrawnBehind e (r.rest reader) (modes.Searching searching) turned.NeedsMore new
-dried_shown e r settings searching old new keys keys' reader reader' kills f read eof shown = λ _ none.
-    let done = needs_more e r old new keys keys' settings.indent_size reader reader' kills f read eof in
-    let still = done.turned.nothing_read none in
-    let prompt = search_prompt (aim_of searching.now) in
-    subst (λ d. IsShownBehind prompt d (e.draft new)) (sym still.1.display) (subst (λ t. IsShownBehind prompt (e.display old) t) (sym still.0) (shown none))

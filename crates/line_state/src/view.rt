@@ -392,8 +392,8 @@ impl<'out, 'prompt, W: Renderer, P: Prompt> View<'out, 'prompt, W, P> {
     // Returns whether the renderer is known to stand at the kept cursor, and what is shown to be printable ASCII and
     // newlines with nothing after it, of which at least `count` characters at the end are printable.
     fn knows_end(&self, count: usize) -> bool
-        ensures { result ≡ true → KnowsEnd (W.surface self.now.out.now)
-            (W.screen self.now.out.now) self.now.drawn.layout self.now.drawn.printable_at_end count }
+        ensures { result ≡ true → KnowsEnd (W.surface self.now.out.now) (W.screen self.now.out.now)
+            self.now.drawn.layout self.now.drawn.printable_at_end count }
     {
         self.drawn.in_place
             && self.drawn.shows_plain

@@ -94,7 +94,8 @@ fn take_newest(
 ) -> Result<Option<Taken>, OutOfMemory>
     requires { Tells (entries_of changes.old.items) line.old.text }
     ensures taken { IfOk result (λ taken. taken ≡ newest_kind (entries_of changes.old.items)) }
-    ensures line { OnOk result (line.new ≡ all_taken_back (take 1 (entries_of changes.old.items)) line.old) }
+    ensures line { OnOk result (line.new
+        ≡ all_taken_back (take 1 (entries_of changes.old.items)) line.old) }
     ensures changes { OnOk result (entries_of changes.new.items
         ≡ drop 1 (entries_of changes.old.items)) }
     ensures cursor { IsCharBoundary line.new.text line.new.cursor }
