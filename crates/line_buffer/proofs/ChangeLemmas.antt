@@ -1,6 +1,7 @@
 -- The newest entries of a list of changes.
-use Rattle.std.proofs.Common.{◌+◌, length, slice_index_or, slice_set, take, min, replicate, drop, ap₂, ◌≡◌, ℕ, ◌-◌, ◌<◌, zero, suc, Bool, true, false, List, [], ◌∷◌, ◌++◌, map, reverse, refl, sym, ap, ◌∙◌, arith}
+use Rattle.std.proofs.Common.{◌+◌, length, slice_index_or, slice_set, take, min, replicate, drop, ap₂, ◌≡◌, ℕ, ◌-◌, ◌<◌, zero, suc, Bool, true, false, List, [], ◌∷◌, ◌++◌, map, reverse, Result, Ok, Err, OnOk, refl, sym, ap, ◌∙◌, arith}
 use Rattle.std.proofs.lemmas.List.{drop_all, length-map, length-reverse, reverse-append, map-append, set-get_or, set_split}
+use Rattle.std.proofs.lemmas.Result.{IfOk-at_ok}
 use Rattle.line_buffer.specs.declared.undo.change.Change.{Change}
 use Rattle.line_buffer.specs.Changes.{Entry, begins, ends, inserted, deleted, replaced, Changes, newest_begins, begins_in_a_row, closed, without_begins}
 use Rattle.std.proofs.lemmas.Bool.Decides.{nat_tests}
@@ -111,3 +112,21 @@ closed-singly (suc n) (ends ∷ es) = closed_plain (suc n) (ends ∷ es) refl
 closed-singly (suc n) (inserted x y ∷ es) = closed_plain (suc n) (inserted x y ∷ es) refl
 closed-singly (suc n) (deleted x y ∷ es) = closed_plain (suc n) (deleted x y ∷ es) refl
 closed-singly (suc n) (replaced x y z ∷ es) = closed_plain (suc n) (replaced x y z ∷ es) refl
+
+-- ---- for calls whose outcome is settled: its changes are given up where it is an error
+
+-- what a call ensures of a success holds where its settled outcome is one
+pub once_settled : {T E P : Type 0} (r outcome : Result T E) (x : T) → r ≡ outcome → r ≡ Ok x → OnOk outcome P → P
+once_settled {P = P} r outcome x same ok p = IfOk-at_ok (λ _. P) (sym same ∙ ok) p
+
+-- what holds holds after a success
+pub on_any : {T E P : Type 0} (r : Result T E) → P → OnOk r P
+on_any (Ok x) p = p
+on_any (Err e) p = tt
+
+-- what was recorded is left after a success
+pub left_settled : {T E : Type 0} (r outcome : Result T E) (before recorded left : Changes) (add : List Entry → List Entry)
+    → r ≡ outcome → OnOk r (left ≡ recorded) → OnOk outcome (recorded ≡ on_entries add before) → OnOk r (left ≡ on_entries add before)
+left_settled (Ok x) (Ok y) before recorded left add same l r = l ∙ r
+left_settled (Ok x) (Err e) before recorded left add same l r = cc
+left_settled (Err e) outcome before recorded left add same l r = tt

@@ -49,26 +49,40 @@ two_columns c _ h = cc
 abbrev high : List Range
 high = (0xA1, 0x10FFFF) ∷ []
 
-narrow_lone : (c : ℕ) → (not (in_ranges NARROW c) || ((is_apart (grapheme_cluster_break c) && is_no_conjunct (indic_conjunct_break c)) && (is_one (kind c) && in_ranges high c))) ≡ true
-unfolding unicode_width ucd_breaks ucd_derived
-narrow_lone =
-    Stepped-everywhere (λ c. not (in_ranges NARROW c) || ((is_apart (grapheme_cluster_break c) && is_no_conjunct (indic_conjunct_break c)) && (is_one (kind c) && in_ranges high c)))
-    (zip_stepped (λ l v. not l || v) (in_ranges NARROW) (λ c. (is_apart (grapheme_cluster_break c) && is_no_conjunct (indic_conjunct_break c)) && (is_one (kind c) && in_ranges high c))
-    (of_ranges NARROW refl)
-    (zip_stepped (λ a b. a && b) (λ c. is_apart (grapheme_cluster_break c) && is_no_conjunct (indic_conjunct_break c)) (λ c. is_one (kind c) && in_ranges high c)
-    (zip_stepped (λ v w. is_apart v && is_no_conjunct w) grapheme_cluster_break indic_conjunct_break grapheme_cluster_break_stepped indic_conjunct_break_stepped)
-    (zip_stepped (λ k h. is_one k && h) kind (in_ranges high) kind_stepped (of_ranges high refl))))
+narrow_high : (c : ℕ) → (not (in_ranges NARROW c) || in_ranges high c) ≡ true
+unfolding unicode_width
+narrow_high =
+    Stepped-everywhere (λ c. not (in_ranges NARROW c) || in_ranges high c)
+    (zip_stepped (λ l h. not l || h) (in_ranges NARROW) (in_ranges high) (of_ranges NARROW refl) (of_ranges high refl))
     refl
 
-wide_lone : (c : ℕ) → (not (in_ranges WIDE c) || ((is_apart (grapheme_cluster_break c) && is_no_conjunct (indic_conjunct_break c)) && (is_two (kind c) && in_ranges high c))) ≡ true
+wide_high : (c : ℕ) → (not (in_ranges WIDE c) || in_ranges high c) ≡ true
+unfolding unicode_width
+wide_high =
+    Stepped-everywhere (λ c. not (in_ranges WIDE c) || in_ranges high c)
+    (zip_stepped (λ l h. not l || h) (in_ranges WIDE) (in_ranges high) (of_ranges WIDE refl) (of_ranges high refl))
+    refl
+
+-- in which of the two tables a character is, and what has to hold of it there
+abbrev Listed : Type 0
+Listed = Bool × Bool
+
+abbrev keeps_to : Listed → Bool → Kind → Bool
+keeps_to l alone k = (not l.0 || (alone && is_one k)) && (not l.1 || (alone && is_two k))
+
+abbrev listed : ℕ → Listed
+listed c = (in_ranges NARROW c, in_ranges WIDE c)
+
+-- one computation over the large tables serves both of the small ones
+tables_keep : (c : ℕ) → keeps_to (listed c) (stands_alone c) (kind c) ≡ true
 unfolding unicode_width ucd_breaks ucd_derived
-wide_lone =
-    Stepped-everywhere (λ c. not (in_ranges WIDE c) || ((is_apart (grapheme_cluster_break c) && is_no_conjunct (indic_conjunct_break c)) && (is_two (kind c) && in_ranges high c)))
-    (zip_stepped (λ l v. not l || v) (in_ranges WIDE) (λ c. (is_apart (grapheme_cluster_break c) && is_no_conjunct (indic_conjunct_break c)) && (is_two (kind c) && in_ranges high c))
-    (of_ranges WIDE refl)
-    (zip_stepped (λ a b. a && b) (λ c. is_apart (grapheme_cluster_break c) && is_no_conjunct (indic_conjunct_break c)) (λ c. is_two (kind c) && in_ranges high c)
-    (zip_stepped (λ v w. is_apart v && is_no_conjunct w) grapheme_cluster_break indic_conjunct_break grapheme_cluster_break_stepped indic_conjunct_break_stepped)
-    (zip_stepped (λ k h. is_two k && h) kind (in_ranges high) kind_stepped (of_ranges high refl))))
+tables_keep =
+    Stepped-everywhere (λ c. keeps_to (listed c) (stands_alone c) (kind c))
+    (zip_stepped (λ (p : Listed × Bool) (k : Kind). keeps_to p.0 p.1 k) (λ c. (listed c, stands_alone c)) kind
+    (zip_stepped (λ (l : Listed) (a : Bool). (l, a)) listed stands_alone
+    (zip_stepped (λ (n w : Bool). (n, w)) (in_ranges NARROW) (in_ranges WIDE) (of_ranges NARROW refl) (of_ranges WIDE refl))
+    (zip_stepped (λ v w. is_apart v && is_no_conjunct w) grapheme_cluster_break indic_conjunct_break grapheme_cluster_break_stepped indic_conjunct_break_stepped))
+    kind_stepped)
     refl
 
 -- past the control characters a character by itself takes its own columns
@@ -85,12 +99,11 @@ implied true b h e = h
 implied false b h e = cc
 
 -- what a table tells of a character
-pub lone : (c n : ℕ) (b : Bool) → (b ≡ true → (of_kind false c (kind c)).0 ≡ n) → (stands_alone c && (b && in_ranges high c)) ≡ true → IsLone c n
-lone c n b columns h =
-    let parts = and_parts (stands_alone c) (b && in_ranges high c) h in
-    let more = and_parts b (in_ranges high c) parts.1 in
-    let past = past_controls c more.1 in
-    (parts.0, own_columns c past ∙ columns more.0, λ feed. omega (arith, past, feed))
+pub lone : (c n : ℕ) (b : Bool) → (b ≡ true → (of_kind false c (kind c)).0 ≡ n) → (stands_alone c && b) ≡ true → in_ranges high c ≡ true → IsLone c n
+lone c n b columns h up =
+    let parts = and_parts (stands_alone c) b h in
+    let past = past_controls c up in
+    (parts.0, own_columns c past ∙ columns parts.1, λ feed. omega (arith, past, feed))
 
 in_narrow : (c : ℕ) → in_ranges NARROW c ≡ list_any (λ range. nat_le range.0 c && nat_le c range.1) NARROW
 unfolding in_ranges
@@ -101,10 +114,16 @@ unfolding in_ranges
 in_wide c = refl
 
 pub narrow : (c : ℕ) → list_any (λ range. nat_le range.0 c && nat_le c range.1) NARROW ≡ true → IsLone c 1
-narrow c h = lone c 1 (is_one (kind c)) (one_column c (kind c)) (implied (in_ranges NARROW c) _ (narrow_lone c) (in_narrow c ∙ h))
+narrow c h =
+    let here = in_narrow c ∙ h in
+    let kept = and_parts (not (in_ranges NARROW c) || (stands_alone c && is_one (kind c))) _ (tables_keep c) in
+    lone c 1 (is_one (kind c)) (one_column c (kind c)) (implied (in_ranges NARROW c) _ kept.0 here) (implied (in_ranges NARROW c) _ (narrow_high c) here)
 
 pub wide : (c : ℕ) → list_any (λ range. nat_le range.0 c && nat_le c range.1) WIDE ≡ true → IsLone c 2
-wide c h = lone c 2 (is_two (kind c)) (two_columns c (kind c)) (implied (in_ranges WIDE c) _ (wide_lone c) (in_wide c ∙ h))
+wide c h =
+    let here = in_wide c ∙ h in
+    let kept = and_parts (not (in_ranges NARROW c) || (stands_alone c && is_one (kind c))) _ (tables_keep c) in
+    lone c 2 (is_two (kind c)) (two_columns c (kind c)) (implied (in_ranges WIDE c) _ kept.1 here) (implied (in_ranges WIDE c) _ (wide_high c) here)
 
 plain_one : (c : ℕ) → is_printable c ≡ true → is_plain c ≡ true
 plain_one c h = grind (arith, nat_tests)

@@ -4,20 +4,21 @@ use Rattle.std.specs.Int.{is_in_range}
 use Rattle.std.specs.List.{list_all, list_any}
 use Rattle.std.specs.Prelude.{replicate}
 use Rattle.std.proofs.lemmas.Bool.Decides.{nat_tests}
-use Rattle.std.proofs.lemmas.Bool.{and_parts}
+use Rattle.std.proofs.lemmas.Bool.{and_left, and_parts, and_right, cond_both, eqb-true, not-true, or_parts}
 use Rattle.ucd_table.specs.Rows.{Range, in_ranges}
 use Rattle.ucd_table.proofs.Stepped.{of_ranges, zip_stepped}
 use Rattle.ucd_table.proofs.Facts.{Stepped-everywhere}
 use Rattle.line_buffer.specs.Width.{BeginsAnew}
 use Rattle.line_buffer.specs.declared.seams.TheConstants.{LETTERS}
 use Rattle.unicode_width.specs.Kind.{kind, is_ligature_transparent, is_text_presentation_base}
-use Rattle.unicode_width.specs.Width.{before, plain, of_kind, alone, joins, before_alef, Reading, added, joined_or, skips_marks, if_kept, is_line_feed, is_quote, is_plain, past_selectors, in_context, past_emoji, step, read_before, str_width}
+use Rattle.unicode_width.specs.Width.{before, plain, of_kind, alone, joins, before_alef, before_joiner, first_of, in_emoji, in_ligature, in_tags, is_emoji, is_emoji_modifier_base, is_indicator, is_lam, is_tag_digit, is_tag_letter, is_tifinagh, Reading, added, joined_or, skips_marks, if_kept, is_line_feed, is_quote, is_plain, past_selectors, in_context, past_emoji, step, read_before, str_width}
 use Rattle.unicode_width.specs.declared.kind.Kind.{Kind}
 use Rattle.unicode_width.specs.declared.kind.Kind.TheVariants as kinds
 use Rattle.unicode_width.specs.declared.state.After.{After}
 use Rattle.unicode_width.specs.declared.state.After.TheVariants.{Nothing, LineFeed, EmojiModifier, RegionalIndicator, RegionalIndicators, Emoji, ZwjEmoji, KeycapZwjEmoji, IndicatorZwj, EvenIndicatorsZwj, OddIndicatorsZwj, TagEnd, TagDigit1, TagDigit2, TagDigit3, TagLetter1, TagLetter2, TagLetter3, TagLetter4, TagLetter5, TagLetter6, KiratE, KiratAi, Alef, Solidus, SolidusAlef, Lamed, ZwjLamed, Ya, ZwjYa, VowelZwjYa, Tifinagh, ZwjTifinagh, JoinerTifinagh, LisuTone, OrkhonI, ZwjOrkhonI, KhmerLetter}
 use Rattle.unicode_width.specs.declared.state.State.{State}
 use Rattle.unicode_width.specs.declared.state.Change.{Change}
+use Rattle.unicode_width.specs.declared.state.Change.TheVariants.{Same}
 use Rattle.unicode_width.proofs.Computing.{unicode_width}
 use Rattle.unicode_width.proofs.KindLemmas.{kind_stepped, is_ligature_transparent_stepped}
 use Rattle.unicode_width.proofs.Rules.{str_width-append_simple, str_width-printable, is_simple}
@@ -140,52 +141,144 @@ some_columns c kinds.EmojiModifier h = cc
 some_columns c kinds.Emoji h = refl
 some_columns c kinds.Single h = cc
 
+-- the tests of what joins, none of which a letter passes
+record Apart (c : ℕ) : Type 0 where
+  line_feed : (c == 0x0A) ≡ false
+  ya : (c == 0x1A17) ≡ false
+  joiner : (c == 0x200D) ≡ false
+  keycap : (c == 0x20E3) ≡ false
+  tifinagh : (c == 0x2D7F) ≡ false
+  selector : is_in_range 0xFE00 0xFE0F c ≡ false
+  kirat : is_in_range 0x16D67 0x16D68 c ≡ false
+  indicator : is_indicator c ≡ false
+  modifier : is_in_range 0x1F3FB 0x1F3FF c ≡ false
+  tag : is_in_range 0xE0030 0xE007F c ≡ false
+
+-- a range that lies in another
+within-not : (a b x y c : ℕ) → a ≤ x → y ≤ b → is_in_range a b c ≡ false → is_in_range x y c ≡ false
+within-not a b x y c low high h = grind (arith, nat_tests)
+
+-- a number of a range
+one-not : (a b n c : ℕ) → a ≤ n → n ≤ b → is_in_range a b c ≡ false → (c == n) ≡ false
+one-not a b n c low high h = grind (arith, nat_tests)
+
+equal-not : (n c : ℕ) → is_in_range n n c ≡ false → (c == n) ≡ false
+equal-not n c h = one-not n n n c (omega arith) (omega arith) h
+
+Apart-outside : (c : ℕ) → in_ranges joining c ≡ false → Apart c
+unfolding in_ranges
+Apart-outside c h =
+    let from_ya = or_parts _ _ (or_parts _ _ h).1 in
+    let from_joiner = or_parts _ _ from_ya.1 in
+    let from_keycap = or_parts _ _ from_joiner.1 in
+    let from_tifinagh = or_parts _ _ from_keycap.1 in
+    let from_selector = or_parts _ _ from_tifinagh.1 in
+    let from_kirat = or_parts _ _ from_selector.1 in
+    let from_indicator = or_parts _ _ from_kirat.1 in
+    let from_modifier = or_parts _ _ from_indicator.1 in
+    record {
+      line_feed = equal-not 0x0A c (or_parts _ _ h).0;
+      ya = equal-not 0x1A17 c from_ya.0;
+      joiner = equal-not 0x200D c from_joiner.0;
+      keycap = equal-not 0x20E3 c from_keycap.0;
+      tifinagh = equal-not 0x2D7F c from_tifinagh.0;
+      selector = from_selector.0;
+      kirat = from_kirat.0;
+      indicator = from_indicator.0;
+      modifier = from_modifier.0;
+      tag = (or_parts _ _ from_modifier.1).0;
+    }
+
+-- what settles on either side of a test does so behind it
+settles-cond : (b : Bool) (x y : Option (Change × After)) → settles x ≡ true → settles y ≡ true → settles (cond b x y) ≡ true
+settles-cond true x y h i = h
+settles-cond false x y h i = i
+
+settles-unless : (b : Bool) (x y : Option (Change × After)) → b ≡ false → settles y ≡ true → settles (cond b x y) ≡ true
+settles-unless true x y e h = cc
+settles-unless false x y e h = h
+
+settles-first : (x y : Option (Change × After)) → settles x ≡ true → settles y ≡ true → settles (first_of x y) ≡ true
+settles-first None y h i = i
+settles-first (Some j) y h i = h
+
+settles-ligature : (after : After) (c : ℕ) → Apart c → settles (in_ligature after c) ≡ true
+settles-ligature ZwjLamed c l = settles-cond (c == 0x05D0) _ _ refl refl
+settles-ligature KhmerLetter c l = settles-cond (c == 0x17D2) _ _ refl refl
+settles-ligature ZwjYa c l = settles-unless (c == 0x1A17) _ _ l.ya refl
+settles-ligature VowelZwjYa c l = settles-cond (c == 0x1A15) _ _ refl refl
+settles-ligature Tifinagh c l = settles-unless (c == 0x2D7F) _ _ l.tifinagh refl
+settles-ligature ZwjTifinagh c l = settles-unless (c == 0x2D7F) _ _ l.tifinagh (settles-cond (is_tifinagh c) _ _ refl refl)
+settles-ligature JoinerTifinagh c l = settles-cond (is_tifinagh c) _ _ refl refl
+settles-ligature LisuTone c l = settles-cond (is_in_range 0xA4F8 0xA4FB c) _ _ refl refl
+settles-ligature ZwjOrkhonI c l = settles-cond (c == 0x10C32) _ _ refl refl
+settles-ligature KiratE c l =
+    settles-cond (c == 0x16D63) _ _ refl
+    (settles-unless (c == 0x16D67) _ _ (one-not 0x16D67 0x16D68 0x16D67 c (omega arith) (omega arith) l.kirat)
+    (settles-unless (c == 0x16D68) _ _ (one-not 0x16D67 0x16D68 0x16D68 c (omega arith) (omega arith) l.kirat)
+    (settles-cond (c == 0x16D69) _ _ refl refl)))
+settles-ligature KiratAi c l = settles-cond (c == 0x16D63) _ _ refl refl
+settles-ligature _ c l = refl
+
+settles-emoji : (after : After) (c : ℕ) → Apart c → settles (in_emoji after c) ≡ true
+settles-emoji RegionalIndicator c l = settles-unless (is_indicator c) _ _ l.indicator refl
+settles-emoji RegionalIndicators c l = settles-unless (is_indicator c) _ _ l.indicator (settles-unless (c == 0x200D) _ _ l.joiner refl)
+settles-emoji Emoji c l = settles-unless (c == 0x200D) _ _ l.joiner refl
+settles-emoji IndicatorZwj c l = settles-unless (is_indicator c) _ _ l.indicator refl
+settles-emoji EvenIndicatorsZwj c l = settles-unless (c == 0x200D) _ _ l.joiner (settles-unless (is_indicator c) _ _ l.indicator refl)
+settles-emoji OddIndicatorsZwj c l = settles-unless (c == 0x200D) _ _ l.joiner (settles-unless (is_indicator c) _ _ l.indicator refl)
+settles-emoji _ c l = refl
+
+no_tag : (c : ℕ) → Apart c → (is_tag_letter c ≡ false) × (is_tag_digit c ≡ false)
+no_tag c l = (
+  within-not 0xE0030 0xE007F 0xE0061 0xE007A c (omega arith) (omega arith) l.tag,
+  within-not 0xE0030 0xE007F 0xE0030 0xE0039 c (omega arith) (omega arith) l.tag,
+)
+
+-- where neither a letter nor a digit of a tag stands
+settles-no_tag : (c : ℕ) (x y z : Option (Change × After)) → Apart c → settles z ≡ true → settles (cond (is_tag_letter c) x (cond (is_tag_digit c) y z)) ≡ true
+settles-no_tag c x y z l h = settles-unless (is_tag_letter c) _ _ (no_tag c l).0 (settles-unless (is_tag_digit c) _ _ (no_tag c l).1 h)
+
+settles-tags : (after : After) (c : ℕ) → Apart c → settles (in_tags after c) ≡ true
+settles-tags TagEnd c l = settles-no_tag c _ _ _ l refl
+settles-tags TagLetter1 c l = settles-no_tag c _ _ _ l refl
+settles-tags TagLetter2 c l = settles-no_tag c _ _ _ l refl
+settles-tags TagLetter3 c l = settles-no_tag c _ _ _ l (settles-cond (c == 0x1F3F4) _ _ refl refl)
+settles-tags TagLetter4 c l = settles-no_tag c _ _ _ l (settles-cond (c == 0x1F3F4) _ _ refl refl)
+settles-tags TagLetter5 c l = settles-unless (is_tag_letter c) _ _ (no_tag c l).0 (settles-cond (c == 0x1F3F4) _ _ refl refl)
+settles-tags TagLetter6 c l = settles-cond (c == 0x1F3F4) _ _ refl refl
+settles-tags TagDigit1 c l = settles-unless (is_tag_digit c) _ _ (no_tag c l).1 refl
+settles-tags TagDigit2 c l = settles-unless (is_tag_digit c) _ _ (no_tag c l).1 refl
+settles-tags TagDigit3 c l = settles-cond (c == 0x1F3F4) _ _ refl refl
+settles-tags _ c l = refl
+
+settles-joiner : (c : ℕ) → Apart c → settles (before_joiner c) ≡ true
+settles-joiner c l =
+    settles-unless (c == 0x20E3) _ _ l.keycap
+    (settles-unless (is_indicator c) _ _ l.indicator
+    (settles-unless (is_in_range 0x1F3FB 0x1F3FF c) _ _ l.modifier
+    (settles-unless (c == 0xE007F) _ _ (one-not 0xE0030 0xE007F 0xE007F c (omega arith) (omega arith) l.tag)
+    (settles-cond (is_emoji (kind c)) _ _ refl refl))))
+
+settles-alef : (c : ℕ) → ((alone false c).0 == 0) ≡ false → settles (before_alef false c) ≡ true
+unfolding before_alef
+settles-alef c w = settles-cond (is_lam c) _ _ refl (settles-unless _ _ _ (and_left _ _ w) refl)
+
+joins-settles : (after : After) (c : ℕ) → Apart c → ((alone false c).0 == 0) ≡ false → settles (joins false after c) ≡ true
+unfolding joins
+joins-settles Alef c l w = settles-alef c w
+joins-settles SolidusAlef c l w = refl
+joins-settles EmojiModifier c l w = settles-cond (is_emoji_modifier_base c) _ _ refl (settles-unless (c == 0x200D) _ _ l.joiner refl)
+joins-settles ZwjEmoji c l w = settles-joiner c l
+joins-settles after c l w =
+    settles-first (in_ligature after c) (first_of (in_emoji after c) (in_tags after c)) (settles-ligature after c l)
+    (settles-first (in_emoji after c) (in_tags after c) (settles-emoji after c l) (settles-tags after c l))
+
 -- a character past the controls that is a letter
 record Letter (c : ℕ) : Type 0 where
   visible : is_visible (kind c) ≡ true
   solid : is_ligature_transparent c ≡ false
-  apart : in_ranges joining c ≡ false
-
-joins-settles : (after : After) (c : ℕ) → in_ranges joining c ≡ false → ((alone false c).0 == 0) ≡ false → settles (joins false after c) ≡ true
-unfolding joins before_alef in_ranges
-joins-settles Nothing c h w = grind (arith, nat_tests)
-joins-settles LineFeed c h w = grind (arith, nat_tests)
-joins-settles EmojiModifier c h w = grind (arith, nat_tests)
-joins-settles RegionalIndicator c h w = grind (arith, nat_tests)
-joins-settles RegionalIndicators c h w = grind (arith, nat_tests)
-joins-settles Emoji c h w = grind (arith, nat_tests)
-joins-settles ZwjEmoji c h w = grind (arith, nat_tests)
-joins-settles KeycapZwjEmoji c h w = grind (arith, nat_tests)
-joins-settles IndicatorZwj c h w = grind (arith, nat_tests)
-joins-settles EvenIndicatorsZwj c h w = grind (arith, nat_tests)
-joins-settles OddIndicatorsZwj c h w = grind (arith, nat_tests)
-joins-settles TagEnd c h w = grind (arith, nat_tests)
-joins-settles TagDigit1 c h w = grind (arith, nat_tests)
-joins-settles TagDigit2 c h w = grind (arith, nat_tests)
-joins-settles TagDigit3 c h w = grind (arith, nat_tests)
-joins-settles TagLetter1 c h w = grind (arith, nat_tests)
-joins-settles TagLetter2 c h w = grind (arith, nat_tests)
-joins-settles TagLetter3 c h w = grind (arith, nat_tests)
-joins-settles TagLetter4 c h w = grind (arith, nat_tests)
-joins-settles TagLetter5 c h w = grind (arith, nat_tests)
-joins-settles TagLetter6 c h w = grind (arith, nat_tests)
-joins-settles KiratE c h w = grind (arith, nat_tests)
-joins-settles KiratAi c h w = grind (arith, nat_tests)
-joins-settles Alef c h w = grind (arith, nat_tests)
-joins-settles Solidus c h w = grind (arith, nat_tests)
-joins-settles SolidusAlef c h w = grind (arith, nat_tests)
-joins-settles Lamed c h w = grind (arith, nat_tests)
-joins-settles ZwjLamed c h w = grind (arith, nat_tests)
-joins-settles Ya c h w = grind (arith, nat_tests)
-joins-settles ZwjYa c h w = grind (arith, nat_tests)
-joins-settles VowelZwjYa c h w = grind (arith, nat_tests)
-joins-settles Tifinagh c h w = grind (arith, nat_tests)
-joins-settles ZwjTifinagh c h w = grind (arith, nat_tests)
-joins-settles JoinerTifinagh c h w = grind (arith, nat_tests)
-joins-settles LisuTone c h w = grind (arith, nat_tests)
-joins-settles OrkhonI c h w = grind (arith, nat_tests)
-joins-settles ZwjOrkhonI c h w = grind (arith, nat_tests)
-joins-settles KhmerLetter c h w = grind (arith, nat_tests)
+  apart : Apart c
 
 abbrev LeavesSettled : Reading → Type 0
 LeavesSettled r = Settled r.1
@@ -206,14 +299,6 @@ settled-joined : (total : ℕ) (j : Option (Change × After)) (own : ℕ × Stat
 settled-joined total None own h p = p
 settled-joined total (Some (change, next)) own h p = Settled-before next h
 
-and-false : (a b : Bool) → b ≡ false → (a && b) ≡ false
-and-false true b h = h
-and-false false b h = refl
-
-is_no_joining : (c : ℕ) → in_ranges joining c ≡ false → ((c == 0x0A) ≡ false) × ((c == 0x200D) ≡ false) × (is_in_range 0xFE00 0xFE0F c ≡ false)
-unfolding in_ranges
-is_no_joining c h = (grind (arith, nat_tests), grind (arith, nat_tests), grind (arith, nat_tests))
-
 Settled-alone : (c : ℕ) → Letter c → Settled (alone false c).1
 unfolding alone
 Settled-alone c l = Settled-of_kind c (kind c) l.visible
@@ -225,21 +310,17 @@ has_columns c l = some_columns c (kind c) l.visible
 settled-past_selectors : (c total : ℕ) (after : After) → Letter c → LeavesSettled (past_selectors false c total after)
 unfolding past_selectors
 settled-past_selectors c total after l =
-    let apart = is_no_joining c l.apart in
-    settled-unless (skips_marks after && (c == 0x200D)) _ _ (and-false _ _ apart.1)
-    (settled-unless (skips_marks after && is_ligature_transparent c) _ _ (and-false _ _ l.solid)
+    settled-unless (skips_marks after && (c == 0x200D)) _ _ (and_right _ _ l.apart.joiner)
+    (settled-unless (skips_marks after && is_ligature_transparent c) _ _ (and_right _ _ l.solid)
     (settled-joined total (joins false after c) (alone false c) (joins-settles after c l.apart (has_columns c l)) (Settled-alone c l)))
 
 settled-in_context : (c total : ℕ) (s : State) → Letter c → LeavesSettled (in_context false c total s)
 unfolding in_context
 settled-in_context c total s l =
-    let apart = (is_no_joining c l.apart).2 in
-    let emoji : (c == 0xFE0F) ≡ false = grind (arith, nat_tests) in
-    let quote : (c == 0xFE01) ≡ false = grind (arith, nat_tests) in
-    let text : (c == 0xFE0E) ≡ false = grind (arith, nat_tests) in
-    settled-unless (c == 0xFE0F) _ _ emoji
-    (settled-unless (c == 0xFE01) _ _ quote
-    (settled-unless (c == 0xFE0E) _ _ text
+    let selector : (n : ℕ) → 0xFE00 ≤ n → n ≤ 0xFE0F → (c == n) ≡ false = λ n low high. one-not 0xFE00 0xFE0F n c low high l.apart.selector in
+    settled-unless (c == 0xFE0F) _ _ (selector 0xFE0F (omega arith) (omega arith))
+    (settled-unless (c == 0xFE01) _ _ (selector 0xFE01 (omega arith) (omega arith))
+    (settled-unless (c == 0xFE0E) _ _ (selector 0xFE0E (omega arith) (omega arith))
     (settled-cond (s.text && is_text_presentation_base c) _ _ (λ _. inl refl)
     (settled-cond (s.quote && is_quote c) _ _ (λ _. inl refl) (settled-past_selectors c total s.after l)))))
 
@@ -280,9 +361,24 @@ text_selector : alone false 0xFE0E ≡ (0, record plain { text = true })
 unfolding unicode_width
 text_selector = refl
 
+-- a character that is no joiner takes its own columns before an emoji
+own-before_emoji : (a total : ℕ) → (a == 0x200D) ≡ false → in_context false a total (before Emoji) ≡ added total (alone false a)
+unfolding in_context past_selectors joins
+own-before_emoji a total h =
+    let own : Reading → Type 0 = λ r. r ≡ added total (alone false a) in
+    let none : total + 0 ≡ total = omega arith in
+    let of_selector : (n : ℕ) (s : State) → alone false n ≡ (0, s) → (a == n) ≡ true → own (total, s) =
+    λ n s is e. sym (ap (λ x. added total (alone false x)) (eqb-true a n e) ∙ ap (added total) is ∙ ap (λ (m : ℕ). (m, s)) none) in
+    cond_both (a == 0xFE0F) _ _ own (of_selector 0xFE0F _ emoji_selector)
+    (λ _. cond_both (a == 0xFE01) _ _ own (of_selector 0xFE01 _ quote_selector)
+    (λ _. cond_both (a == 0xFE0E) _ _ own (of_selector 0xFE0E _ text_selector)
+    (λ _. ap (λ b. joined_or total (first_of None (first_of (cond b (Some (Same, ZwjEmoji)) None) None)) (alone false a)) h)))
+
 step-before_emoji : (a total : ℕ) → (a == 0x200D) ≡ false → step false a (total, before Emoji) ≡ step false a (total, plain)
-unfolding step past_emoji in_context past_selectors joins
-step-before_emoji a total h = grind (arith, nat_tests, emoji_selector, quote_selector, text_selector)
+unfolding step past_emoji
+step-before_emoji a total h =
+    ap (λ r. cond (a == 0x0A) (total + 1, before LineFeed) (cond ((a == 0x0D) && false) (total, plain) (cond (nat_le a 0xA0) (total + 1, plain) r)))
+    (own-before_emoji a total h)
 
 step-settled : (a total : ℕ) (s : State) → (a == 0x200D) ≡ false → Settled s → step false a (total, s) ≡ step false a (total, plain)
 step-settled a total s h (inl e) = ap (λ x. step false a (total, x)) e
@@ -335,17 +431,13 @@ pub implied : (a b : Bool) → (not a || b) ≡ true → a ≡ true → b ≡ tr
 implied true b h e = h
 implied false b h e = cc
 
-not_true : (b : Bool) → not b ≡ true → b ≡ false
-not_true true h = cc
-not_true false h = refl
-
 letter : (c : ℕ) → in_ranges letters c ≡ true → Letter c
 letter c h =
     let seen = and_parts (is_visible (kind c)) (not (is_ligature_transparent c)) (implied (in_ranges letters c) _ (letters_visible c) h) in
     record {
       visible = seen.0;
-      solid = not_true (is_ligature_transparent c) seen.1;
-      apart = not_true (in_ranges joining c) (implied (in_ranges letters c) _ (letters_apart c) h);
+      solid = not-true (is_ligature_transparent c) seen.1;
+      apart = Apart-outside c (not-true (in_ranges joining c) (implied (in_ranges letters c) _ (letters_apart c) h));
     }
 
 any_range : (c : ℕ) → in_ranges letters c ≡ list_any (λ range. nat_le range.0 c && nat_le c range.1) LETTERS
@@ -354,7 +446,7 @@ any_range c = refl
 
 pub letter_begins_anew : (c : ℕ) → list_any (λ range. nat_le range.0 c && nat_le c range.1) LETTERS ≡ true → BeginsAnew c
 letter_begins_anew c h = λ front behind before j.
-    let l = letter c (any_range c ∙ h) in str_width-meet front behind before c j (is_no_joining c l.apart).0 (inr l)
+    let l = letter c (any_range c ∙ h) in str_width-meet front behind before c j l.apart.line_feed (inr l)
 
 pub low_begins_anew : (c : ℕ) → c ≤ 0xA0 → c ≢ 0x0A → BeginsAnew c
 low_begins_anew c low other = λ front behind before j. str_width-meet front behind before c j (grind (arith, nat_tests)) (inl (grind (arith, nat_tests)))

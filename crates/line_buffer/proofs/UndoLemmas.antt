@@ -3,10 +3,8 @@ use Rattle.std.proofs.Common.{replicate, nat_le, max, ◌≡◌, ℕ, ◌+◌, �
 use Rattle.std.specs.List.{range_with_len, slice_get, list_any, count_by}
 use Rattle.std.proofs.lemmas.List.Folds.{list_any-append}
 use Rattle.std.proofs.lemmas.List.Sums.{sum_by_push}
-use Rattle.line_buffer.specs.declared.undo.change.Change.{Change}
 use Rattle.line_buffer.specs.Changes.{Entry, Changes, with_entries, closed, ended, begins, ends, inserted, deleted, replaced}
 use Rattle.line_buffer.specs.Line.{Line}
-use Rattle.line_buffer.specs.KeptChanges.{entry_of, entries_of}
 use Rattle.line_buffer.specs.Undo.{StillTells, Tells, TellsOf, taken_back, all_taken_back, is_begin, is_end, is_change, is_step, steps_len}
 use Rattle.line_buffer.specs.EntryKind.{closed_by, is_text, newest_kind, opened_by, taken_kind}
 use Rattle.line_buffer.specs.Word.{nth}
@@ -14,19 +12,7 @@ use Rattle.line_buffer.specs.declared.undo.steps.Taken.{Taken}
 use Rattle.line_buffer.proofs.WordPlaces.{some_same}
 use Rattle.line_buffer.proofs.ListLemmas.{drop_one_more}
 use Rattle.line_buffer.proofs.WordLemmas.{drop_within, drop_end, filter-yes, filter-no}
-use Rattle.line_buffer.proofs.ChangeLemmas.{closed-singly, closed_singly, entries_of-push}
-
-pub insert_within : (entries rest : List Entry) (text : List ℕ) (place : ℕ) (t : List ℕ) → Tells entries text → entries ≡ inserted place t ∷ rest → place + length t ≤ length text
-insert_within entries rest text place t h e = let here = subst (λ es. Tells es text) e h in here.told.0.stop.0
-
-pub replace_within : (entries rest : List Entry) (text : List ℕ) (place : ℕ) (old new : List ℕ) → Tells entries text → entries ≡ replaced place old new ∷ rest
-    → place + length new ≤ length text
-replace_within entries rest text place old new h e = let here = subst (λ es. Tells es text) e h in here.told.0.stop.0
-
--- the newest entry of a list whose newest change was taken
-pub newest_is : (items left : List Change) (entries : List Entry) (c : Change) (e : Entry) → entries_of items ≡ entries → items ≡ left ++ c ∷ [] → entry_of c ≡ e
-    → entries ≡ e ∷ entries_of left
-newest_is items left entries c e v i n = sym v ∙ ap entries_of i ∙ entries_of-push left c ∙ ap (λ x. x ∷ entries_of left) n
+use Rattle.line_buffer.proofs.ChangeLemmas.{closed-singly, closed_singly}
 
 -- ---- the entries that were taken so far
 

@@ -1,7 +1,7 @@
 //! The changes of a line, by which it can be brought back.
 ghost use Rattle.std.specs.Prelude.{◌≡◌, ◌==◌, ◌++◌, ◌∷◌, length, replicate, not, encode_utf8, string_bytes, option_map, IfOk, OnOk, OnErr};
 ghost use Rattle.std.specs.List.{list_any};
-ghost use Rattle.line_buffer.specs.Changes.{adds_end, begun, deleted, ended, ends, inserted, last_insert_of, newest_begins, no_changes, replaced, with_delete, with_insert, with_joined_delete, with_joined_insert, with_replace, with_typed, without_begins};
+ghost use Rattle.line_buffer.specs.Changes.{adds_end, begun, deleted, ended, ends, inserted, last_insert_of, newest_begins, no_changes, replaced, with_delete, with_insert, with_joined_delete, with_joined_insert, with_replace, with_typed, with_update, without_begins};
 ghost use Rattle.line_buffer.specs.Edit.{Adds, Edits};
 ghost use Rattle.line_buffer.specs.Undo.{GroupsFit, KeepsToldAnywhere, Tells, UndoesStepByStep, all_taken_back, is_change, newest_steps, without_steps};
 
@@ -161,7 +161,7 @@ impl Changeset {
     }
 
     /// Passes an outcome on, and forgets every change where it is an error.
-    pub(crate) fn settled<T>(&mut self, outcome: Result<T, OutOfMemory>) -> Result<T, OutOfMemory>
+    pub(crate) fn settled<T, E>(&mut self, outcome: Result<T, E>) -> Result<T, E>
         ensures same { result ≡ outcome }
         ensures ok { OnOk result (self.new ≡ self.old) }
         ensures err { OnErr result (self.new ≡ no_changes) }
@@ -215,6 +215,14 @@ impl Changeset {
         }
         self.changes.push(Change::Delete { place, text })?;
         Ok(())
+    }
+
+    /// Records that `new` replaced `old`, the whole text, which is kept.
+    pub(crate) fn replace_all(&mut self, old: String, new: &str) -> Result<(), OutOfMemory>
+        ensures { Adds result self.old self.new (with_update (string_bytes old) new.now) }
+    {
+        self.delete_text(0, old)?;
+        self.insert_str(0, new)
     }
 
     /// Records that `new` replaced `old` at `place`.

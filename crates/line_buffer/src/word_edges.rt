@@ -12,7 +12,7 @@ use crate::movement::{At, RepeatCount, Word};
 use unicode_segmentation::{Graphemes, UnicodeSegmentation};
 
 /// What a cluster is to words.
-#[derive(Debug, Clone, Copy, PartialEq, Eq)]
+#[derive(Clone, Copy, PartialEq, Eq)]
 pub(crate) enum Kind {
     /// It stands between words.
     Gap,
@@ -23,7 +23,7 @@ pub(crate) enum Kind {
 }
 
 /// Which end of a word is looked for.
-#[derive(Debug, Clone, Copy, PartialEq, Eq)]
+#[derive(Clone, Copy)]
 pub(crate) enum Edge {
     Begin,
     End,

@@ -120,25 +120,10 @@ impl LineBuffer {
             (inserted_at self.old place text.now)
             (on_entries (with_insert place text.now)) }
     {
-        let outcome = self.try_insert_str(place, text, changes);
-        changes.settled(outcome)
-    }
-
-    fn try_insert_str(
-        &mut self,
-        place: usize,
-        text: &str,
-        changes: &mut Changeset,
-    ) -> Result<(), OutOfMemory>
-        requires boundary { IsCharBoundary self.old.text place }
-        requires behind { self.old.cursor ≤ place }
-        ensures { EditsIfOk result self.old self.new changes.old changes.new
-            (inserted_at self.old place text.now)
-            (on_entries (with_insert place text.now)) }
-    {
         self.cursor_is_on_boundary();
-        changes.insert_str(place, text)?;
-        self.buf.insert_str(place, text)?;
+        let recorded = changes.insert_str(place, text);
+        changes.settled(recorded)?;
+        changes.settled(self.buf.insert_str(place, text))?;
         self.plain &= is_plain_text(text);
         Ok(())
     }
@@ -161,31 +146,16 @@ impl LineBuffer {
             (line_yanked self.old text.now n)
             (on_entries (with_yank self.old.cursor text.now n)) }
     {
-        let outcome = self.try_yank(text, n, changes);
-        changes.settled(outcome)
-    }
-
-    fn try_yank(
-        &mut self,
-        text: &str,
-        n: RepeatCount,
-        changes: &mut Changeset,
-    ) -> Result<Option<bool>, OutOfMemory>
-        ensures answer { IfOk result (λ at_end. at_end ≡ yanks self.old text.now) }
-        ensures edit { EditsIfOk result self.old self.new changes.old changes.new
-            (line_yanked self.old text.now n)
-            (on_entries (with_yank self.old.cursor text.now n)) }
-    {
         self.cursor_is_on_boundary();
         if text.is_empty() {
             return Ok(None);
         }
-        let at_end = if n == 1 {
-            self.insert_told(text, changes)?
+        let outcome = if n == 1 {
+            self.insert_told(text, changes)
         } else {
-            self.insert_repeated(text, n, changes)?
+            self.insert_repeated(text, n, changes)
         };
-        Ok(Some(at_end))
+        Ok(Some(changes.settled(outcome)?))
     }
 
     fn insert_repeated(
@@ -222,27 +192,13 @@ impl LineBuffer {
             (line_yank_popped self.old size text.now)
             (on_entries (with_yank_pop self.old size text.now)) }
     {
-        let outcome = self.try_yank_pop(size, text, changes);
-        changes.settled(outcome)
-    }
-
-    fn try_yank_pop(
-        &mut self,
-        size: usize,
-        text: &str,
-        changes: &mut Changeset,
-    ) -> Result<Option<bool>, OutOfMemory>
-        ensures answer { IfOk result (λ at_end. at_end ≡ yank_pops self.old size text.now) }
-        ensures edit { EditsIfOk result self.old self.new changes.old changes.new
-            (line_yank_popped self.old size text.now)
-            (on_entries (with_yank_pop self.old size text.now)) }
-    {
         let end = self.pos;
         if size > end || !self.buf.is_char_boundary(end - size) {
             return Ok(None);
         }
-        self.delete_range(end - size, end, changes)?;
-        self.try_yank(text, 1, changes)
+        let deleted = self.delete_range(end - size, end, changes);
+        changes.settled(deleted)?;
+        self.yank(text, 1, changes)
     }
 
     /// Puts a text in place of the whole line, and the cursor at byte `pos` of it.
@@ -262,28 +218,12 @@ impl LineBuffer {
             (record { text = text.now; cursor = pos })
             (on_entries (with_update self.old.text text.now)) }
     {
-        let outcome = self.try_update(text, pos, changes);
-        changes.settled(outcome)
-    }
-
-    fn try_update(
-        &mut self,
-        text: &str,
-        pos: usize,
-        changes: &mut Changeset,
-    ) -> Result<(), OutOfMemory>
-        requires { IsCharBoundary text.now pos }
-        ensures { EditsIfOk result self.old self.new changes.old changes.new
-            (record { text = text.now; cursor = pos })
-            (on_entries (with_update self.old.text text.now)) }
-    {
-        let new = String::from_str(*self.buf.allocator(), text)?;
+        let new = changes.settled(String::from_str(*self.buf.allocator(), text))?;
         let old = std::mem::replace(&mut self.buf, new);
         self.plain = is_plain_text(text);
         self.pos = pos;
-        changes.delete_text(0, old)?;
-        changes.insert_str(0, text)?;
-        Ok(())
+        let recorded = changes.replace_all(old, text);
+        changes.settled(recorded)
     }
 
     /// Puts a text in place of a range of bytes, and the cursor after it. The range begins and ends on boundaries.

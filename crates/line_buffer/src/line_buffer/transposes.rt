@@ -151,27 +151,14 @@ impl LineBuffer {
         ensures edit { Edits result self.old self.new changes.old changes.new
             (word_cased action self.old) (on_entries (with_word_cased action self.old)) }
     {
-        let outcome = self.try_edit_word(action, changes);
-        changes.settled(outcome)
-    }
-
-    fn try_edit_word(
-        &mut self,
-        action: WordAction,
-        changes: &mut Changeset,
-    ) -> Result<bool, OutOfMemory>
-        ensures answer { IfOk result (λ done. done ≡ is_some (next_alphanumeric self.old)) }
-        ensures edit { EditsIfOk result self.old self.new changes.old changes.new
-            (word_cased action self.old) (on_entries (with_word_cased action self.old)) }
-    {
         let from = match first_alphanumeric(self.after()) {
             Some(bytes) => self.pos + bytes,
             None => return Ok(false),
         };
         let to = self.word_end_from(from, 1);
         let alloc = *self.buf.allocator();
-        let text = cased(alloc, action, &self.buf.as_str()[from..to])?;
-        self.try_replace(from, to, text.as_str(), changes)?;
+        let text = changes.settled(cased(alloc, action, &self.buf.as_str()[from..to]))?;
+        self.replace(from..to, text.as_str(), changes)?;
         Ok(true)
     }
 }

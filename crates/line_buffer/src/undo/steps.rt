@@ -1,16 +1,16 @@
 //! Taking changes back.
 ghost use Rattle.std.specs.Prelude.{◌≡◌, ◌<◌, drop, take, IfOk, OnOk, IsCharBoundary};
 ghost use Rattle.std.specs.List.{list_any};
-ghost use Rattle.line_buffer.specs.EntryKind.{closed_by, is_text, newest_kind, opened_by};
+ghost use Rattle.line_buffer.specs.EntryKind.{closed_by, is_text, newest_kind, opened_by, taken_kind};
 ghost use Rattle.line_buffer.specs.KeptChanges.{entries_of};
-ghost use Rattle.line_buffer.specs.Undo.{Tells, all_taken_back, is_change, newest_steps, steps_len};
+ghost use Rattle.line_buffer.specs.Undo.{Fits, Tells, all_taken_back, is_change, newest_steps, steps_len, taken_back};
 
 use super::change::Change;
 use crate::line_buffer::{LineBuffer, OutOfMemory};
 use crate::movement::RepeatCount;
 
 /// What an entry was that was taken back.
-#[derive(Debug, Clone, Copy, PartialEq, Eq)]
+#[derive(Clone, Copy)]
 pub(crate) enum Taken {
     Begin,
     End,
@@ -101,24 +101,39 @@ fn take_newest(
     ensures cursor { IsCharBoundary line.new.text line.new.cursor }
 {
     line.cursor_is_on_boundary();
-    line.len_fits();
     let Some(change) = changes.pop() else {
         return Ok(None);
     };
-    match change {
-        Change::Begin => Ok(Some(Taken::Begin)),
-        Change::End => Ok(Some(Taken::End)),
-        Change::Insert { place, text } => {
-            line.remove_range(place, place + text.len())?;
-            Ok(Some(Taken::Change))
-        }
-        Change::Delete { place, text } => {
-            line.put(place, place, text.as_str())?;
-            Ok(Some(Taken::Change))
-        }
-        Change::Replace { place, old, new } => {
-            line.put(place, place + new.len(), old.as_str())?;
-            Ok(Some(Taken::Change))
+    Ok(Some(change.take_back(line)?))
+}
+
+impl Change {
+    ghost use Rattle.line_buffer.specs.KeptChanges.{entry_of};
+
+    /// Reverses in the line what this records, and returns what it was.
+    fn take_back(self, line: &mut LineBuffer) -> Result<Taken, OutOfMemory>
+        requires { Fits (entry_of self) line.old.text }
+        ensures taken { IfOk result (λ taken. taken ≡ taken_kind (entry_of self)) }
+        ensures line { OnOk result (line.new ≡ taken_back (entry_of self) line.old) }
+        ensures cursor { IsCharBoundary line.new.text line.new.cursor }
+    {
+        line.cursor_is_on_boundary();
+        line.len_fits();
+        match self {
+            Change::Begin => Ok(Taken::Begin),
+            Change::End => Ok(Taken::End),
+            Change::Insert { place, text } => {
+                line.remove_range(place, place + text.len())?;
+                Ok(Taken::Change)
+            }
+            Change::Delete { place, text } => {
+                line.put(place, place, text.as_str())?;
+                Ok(Taken::Change)
+            }
+            Change::Replace { place, old, new } => {
+                line.put(place, place + new.len(), old.as_str())?;
+                Ok(Taken::Change)
+            }
         }
     }
 }
