@@ -7,16 +7,15 @@ use Rattle.line_keys.specs.Command.{Command}
 use Rattle.line_editor.specs.Binding.{Bound, Rebinds, answers}
 use Rattle.line_editor.specs.Event.{Chord}
 use Rattle.line_host.specs.Bound.{BoundCommands, bound}
-use Rattle.line_session.specs.Sitting.{BeginsOrStays, BegunLine, LosesNothing, Sitting, suspends}
+use Rattle.line_session.specs.Heard.{BeginsReading, Feeds, turn_of}
+use Rattle.line_session.specs.Sitting.{Sitting, suspends}
 use Rattle.line_session.specs.declared.editor.Fed.{Fed}
 use Rattle.line_session.specs.declared.editor.Fed.TheVariants as feds
-use Rattle.line_host.specs.Heard.{Hears, IsOfTerminal, Leaves, turn_of}
-use Rattle.line_host.specs.Hosted.{Begins, BindsKeys, CameTo, Hosted, Tells, Turns, with_editor}
+use Rattle.line_session.specs.declared.editor.Heard.{Heard}
+use Rattle.line_host.specs.Hosted.{BindsKeys, CameTo, Hosted, Tells, with_editor}
 use Rattle.line_host.specs.Status.{IsDoneOrFault, IsFault, MayBind}
 use Rattle.line_host.specs.declared.status.Status.{Status}
 use Rattle.line_host.specs.declared.status.Status.TheVariants as status
-use Rattle.line_host.specs.declared.session.Heard.{Heard}
-use Rattle.line_host.specs.declared.session.Heard.TheVariants as heards
 
 -- where one of two that agree is there, so is the other
 pub not_none : {A B C : Type 0} (f : A → C) (g : B → C) (one : Option A) (other : Option B) → option_map f one ≡ option_map g other → is_some one ≡ true → other ≡ None → ⊥
@@ -36,39 +35,27 @@ none_mapped f None none = refl
 none_mapped f (Some x) none = cc
 
 module _ {H : Type 0} (answers : H → List (List ℕ) → Environment) where
-  -- the same of what is equal to it
-  pub hears_alike : (bound bound' : Bound) (heard heard' : Heard) (old old' new : Sitting H) (told : Result Fed ReadlineError) → bound ≡ bound' → heard' ≡ heard → old ≡ old'
-      → Hears answers bound heard old new told → Hears answers bound' heard' old' new told
-  hears_alike bound bound' heard heard' old old' new told same_bound same_heard same came =
-      subst (λ b. Hears answers b heard' old' new told) same_bound
-      (subst (λ h. Hears answers bound h old' new told) (sym same_heard) (subst (λ o. Hears answers bound heard o new told) same came))
+  -- what came of a line that began, by what is equal
+  pub began_alike : (bound bound' : Bound) (prompt left right : List ℕ) (old old' new : Sitting H) (told : Result Fed ReadlineError) → bound ≡ bound' → old ≡ old'
+      → BeginsReading answers bound prompt left right old new told → BeginsReading answers bound' prompt left right old' new told
+  began_alike bound bound' prompt left right old old' new told same_bound same begins =
+      subst (λ b. BeginsReading answers b prompt left right old' new told) same_bound (subst (λ o. BeginsReading answers bound prompt left right o new told) same begins)
 
-  -- of the terminal turns are taken
-  pub hears_turns : (bound : Bound) (heard : Heard) (old new : Sitting H) (told : Result Fed ReadlineError) → IsOfTerminal heard
-      → Hears answers bound heard old new told → (begun : BegunLine) → old.line ≡ Some begun
-      → IfOk told (Turns answers bound (turn_of heard old.decoder) old begun new)
-  hears_turns bound (heards.Line line) old new told is hears = absurd is
-  hears_turns bound (heards.Bytes bytes) old new told is hears = hears
-  hears_turns bound heards.Pause old new told is hears = hears
-  hears_turns bound heards.End old new told is hears = hears
-
-  -- what came of a line that began is that of texts that are equal
+  -- and of the texts that are equal
   pub begins_alike : (bound : Bound) (prompt prompt' left left' right right' : List ℕ) (old new : Sitting H) (told : Result Fed ReadlineError)
-      → prompt ≡ prompt' → left ≡ left' → right ≡ right' → IfOk told (Begins answers bound prompt left right old new)
-      → IfOk told (Begins answers bound prompt' left' right' old new)
+      → prompt ≡ prompt' → left ≡ left' → right ≡ right' → BeginsReading answers bound prompt left right old new told
+      → BeginsReading answers bound prompt' left' right' old new told
   begins_alike bound prompt prompt' left left' right right' old new told same_prompt same_left same_right begins =
-      subst (λ p. IfOk told (Begins answers bound p left' right' old new)) same_prompt
-      (subst (λ l. IfOk told (Begins answers bound prompt l right' old new)) same_left
-      (subst (λ r. IfOk told (Begins answers bound prompt left r old new)) same_right begins))
+      subst (λ p. BeginsReading answers bound p left' right' old new told) same_prompt
+      (subst (λ l. BeginsReading answers bound prompt l right' old new told) same_left
+      (subst (λ r. BeginsReading answers bound prompt left r old new told) same_right begins))
 
-  -- what is left of a line that was to begin is that of texts that are equal
-  pub stays_alike : (prompt prompt' left left' right right' : List ℕ) (old new : Sitting H) (told : Result Fed ReadlineError)
-      → prompt ≡ prompt' → left ≡ left' → right ≡ right' → OnErr told (BeginsOrStays answers prompt left right old new)
-      → OnErr told (BeginsOrStays answers prompt' left' right' old new)
-  stays_alike prompt prompt' left left' right right' old new told same_prompt same_left same_right stays =
-      subst (λ p. OnErr told (BeginsOrStays answers p left' right' old new)) same_prompt
-      (subst (λ l. OnErr told (BeginsOrStays answers prompt l right' old new)) same_left
-      (subst (λ r. OnErr told (BeginsOrStays answers prompt left r old new)) same_right stays))
+  -- what came of what was heard, by what is equal
+  pub feeds_alike : (bound bound' : Bound) (heard : Heard) (old old' new : Sitting H) (told : Result Fed ReadlineError) → bound ≡ bound' → old ≡ old'
+      → Feeds answers bound (turn_of heard old.decoder) old new told → Feeds answers bound' (turn_of heard old'.decoder) old' new told
+  feeds_alike bound bound' heard old old' new told same_bound same feeds =
+      subst (λ b. Feeds answers b (turn_of heard old'.decoder) old' new told) same_bound
+      (subst (λ o. Feeds answers bound (turn_of heard o.decoder) o new told) same feeds)
 
   -- what a status tells of a line is what came of it
   pub tells_came : (Comes : Sitting H → Fed → Type 0) (Left : Sitting H → Type 0) (old mid new : Hosted H) (fed : Result Fed ReadlineError) (came : Status)
@@ -96,20 +83,6 @@ module _ {H : Type 0} (answers : H → List (List ℕ) → Environment) where
       by_fault status.NoMemory fault = (tt, left, stays)
       by_fault status.Failed fault = (tt, left, stays)
       by_fault _ fault = absurd fault
-
-  -- of the terminal nothing is lost where it failed
-  pub loses_nothing : (heard : Heard) (old new : Sitting H) (told : Result Fed ReadlineError) → IsOfTerminal heard → OnErr told (Leaves answers heard old new)
-      → OnErr told (LosesNothing old new)
-  loses_nothing (heards.Line line) old new told is left = absurd is
-  loses_nothing (heards.Bytes bytes) old new told is left = left
-  loses_nothing heards.Pause old new told is left = left
-  loses_nothing heards.End old new told is left = left
-
-  -- what is left of an equal one that failed is left of the other
-  pub leaves_alike : (heard heard' : Heard) (old old' new : Sitting H) (told : Result Fed ReadlineError) → heard' ≡ heard → old ≡ old'
-      → OnErr told (Leaves answers heard old new) → OnErr told (Leaves answers heard' old' new)
-  leaves_alike heard heard' old old' new told same_heard same left =
-      subst (λ h. OnErr told (Leaves answers h old' new)) (sym same_heard) (subst (λ o. OnErr told (Leaves answers heard o new)) same left)
 
 -- what holds of an answer, and what holds where there is one
 pub both : {T E : Type 0} (P : T → Type 0) (Q : Type 0) (told : Result T E) → IfOk told P → OnOk told Q → IfOk told (λ t. P t × Q)

@@ -1,6 +1,5 @@
 pub mod Bound
 pub mod Copied
-pub mod Heard
 pub mod Helped
 pub mod Hosted
 pub mod New

@@ -5,8 +5,8 @@ ghost use Rattle.line_host.specs.Bound.{bound};
 ghost use Rattle.line_host.specs.Copied.{CopiesIfAny, Takes, TakesOutput};
 ghost use Rattle.line_host.specs.Helped.{SetsWords, answers, words_in};
 ghost use Rattle.line_host.specs.Hosted.{Abandons, AddsLine, BeginsLine, Drops, Finishes, BindsKeys, LoadsHistory, ResizesTo, SavesHistory, TakesTurns, Tells, TellsCursor, line_of, with_editor};
-ghost use Rattle.line_host.specs.Heard.{Hears, IsOfTerminal, Leaves, turn_of};
 ghost use Rattle.line_host.specs.New.{IsNew, Refuses};
+ghost use Rattle.line_session.specs.Heard.{BeginsReading, Feeds, turn_of};
 ghost use Rattle.line_term.specs.Decoder.{finished, flushed, is_waiting, read};
 
 use crate::bound::BoundCommands;
@@ -18,7 +18,7 @@ use crate::status::Status;
 use line_buffer::Unit;
 use line_config::{ReadlineError, Result};
 use line_parts::{DimHints, FileHistory, HintsAndBrackets, Parts, Words};
-use line_session::editor::{Editor, Fed};
+use line_session::editor::{Editor, Fed, Heard};
 use std::alloc::Global;
 use std::io::ErrorKind;
 use std::marker::Model;
@@ -26,22 +26,6 @@ use std::marker::Model;
 /// What helps a session: words are completed; there are hints from the history, and brackets are checked and lit, each where it is
 /// switched on.
 pub type HostHelper = Parts<Words, HintsAndBrackets, DimHints, HintsAndBrackets>;
-
-/// A prompt, without styles and with them, and the texts that stand before and after the cursor at first.
-#[derive(Clone, Copy)]
-struct NewLine<'t> {
-    prompt: (&'t str, &'t str),
-    initial: (&'t str, &'t str),
-}
-
-/// What is heard: that a line begins; bytes of the terminal, that none have arrived for a while, or that there are no more.
-#[derive(Clone, Copy)]
-enum Heard<'t> {
-    Line(NewLine<'t>),
-    Bytes(&'t [u8]),
-    Pause,
-    End,
-}
 
 /// A session that reads lines from bytes, and leaves the bytes that are to be written to be taken.
 pub struct Session {
@@ -138,11 +122,7 @@ impl Session {
         let (Ok(left), Ok(right)) = (str::from_utf8(left), str::from_utf8(right)) else {
             return Status::NotText;
         };
-        let line = NewLine {
-            prompt: (prompt, styled),
-            initial: (left, right),
-        };
-        let fed = self.try_hear(Heard::Line(line));
+        let fed = self.try_begin((prompt, styled), (left, right));
         self.tell(fed)
     }
 
@@ -199,7 +179,6 @@ impl Session {
 
     /// Reads what is heard of the terminal.
     fn hear(&mut self, heard: Heard<'_>) -> Status
-        requires { IsOfTerminal heard }
         ensures { TakesTurns answers (turn_of heard.entry self.old.editor.decoder) self.old self.new
             result }
     {
@@ -210,21 +189,24 @@ impl Session {
         self.tell(fed)
     }
 
-    /// Does what is heard.
-    fn try_hear(&mut self, heard: Heard<'_>) -> Result<Fed>
-        ensures hears { Hears answers (bound self.old.commands) heard.entry self.old.editor
-            self.new.editor result }
+    /// Begins a line after a prompt, which is given without styles and with them, with these texts before and after the cursor.
+    fn try_begin(&mut self, prompt: (&str, &str), initial: (&str, &str)) -> Result<Fed>
+        ensures begins { BeginsReading answers (bound self.old.commands) prompt.entry.0.now
+            initial.entry.0.now initial.entry.1.now self.old.editor self.new.editor result }
         ensures stays { self.new ≡ with_editor self.new.editor self.old }
-        ensures left { OnErr result (Leaves answers heard.entry self.old.editor self.new.editor) }
-        ensures faults { FaultsOnly result }
     {
         let bindings = self.commands.bindings();
-        match heard {
-            Heard::Line(line) => self.editor.begin_with(&line.prompt, line.initial, bindings),
-            Heard::Bytes(bytes) => self.editor.feed(bytes, bindings),
-            Heard::Pause => self.editor.flush(bindings),
-            Heard::End => self.editor.finish(bindings),
-        }
+        self.editor.begin_with(&prompt, initial, bindings)
+    }
+
+    /// Has the editor read what is heard of the terminal.
+    fn try_hear(&mut self, heard: Heard<'_>) -> Result<Fed>
+        ensures feeds { Feeds answers (bound self.old.commands)
+            (turn_of heard.entry self.old.editor.decoder) self.old.editor self.new.editor result }
+        ensures stays { self.new ≡ with_editor self.new.editor self.old }
+    {
+        let bindings = self.commands.bindings();
+        self.editor.hear(heard, bindings)
     }
 
     /// Returns the status of what became of a line, and keeps the text of one that was submitted.

@@ -1,9 +1,10 @@
 -- Facts on what comes of a line.
-use Rattle.std.proofs.Common.{◌≡◌, ◌∙◌, ℕ, Bool, true, false, not, cond, List, ◌++◌, Option, Some, None, Result, Ok, Err, IfOk, OnErr, OnOk, inr, refl, sym, ap, subst, option_map, string_bytes, if◌then◌else◌}
+use Rattle.std.proofs.Common.{◌≡◌, ◌∙◌, ℕ, Bool, true, false, not, cond, List, ◌++◌, Option, Some, None, is_some, Result, Ok, Err, IfOk, OnErr, OnOk, inr, refl, sym, ap, subst, option_map, string_bytes, if◌then◌else◌}
 use Rattle.line_buffer.specs.KillRing.{other, with_last}
 use Rattle.line_buffer.specs.declared.layout.GraphemeClusterMode.TheVariants.{Unicode}
 use Rattle.line_buffer.specs.declared.layout.Position.{Position}
 use Rattle.line_config.specs.Settings.{Settings}
+use Rattle.line_config.specs.Error.{FaultsOnly}
 use Rattle.line_config.specs.declared.error.ReadlineError.{ReadlineError}
 use Rattle.line_keys.specs.Command.{Command}
 use Rattle.line_keys.specs.Display.{corner}
@@ -19,6 +20,7 @@ use Rattle.line_editor.specs.declared.run.Turned.{Turned}
 use Rattle.line_editor.specs.declared.run.Turned.TheVariants as turned
 use Rattle.line_term.specs.Decoder as decoding
 use Rattle.line_term.specs.Decoder.{Gives}
+use Rattle.line_session.specs.Heard.{Feeds}
 use Rattle.line_session.specs.Sitting.{BeginsOrStays, BegunLine, Came, CameBegun, CameFrom, EndsAs, Keeps, LosesNothing, Sitting, StartsWith, begun_with, goes_on, rules_at, rules_for, standing_with, with_turn}
 use Rattle.line_session.specs.Steps.{Ends, Rules, Standing, starting}
 use Rattle.line_session.specs.Taken.{ComesTo}
@@ -206,23 +208,45 @@ module _ {H : Type 0} where
     kept_so old mid new (Err error) first next = tt
 
     -- what came of them
-    pub fed_so : (bound : Bound) (old mid new : Sitting H) (turn : decoding.Turn) (result : Result Fed ReadlineError) → mid ≡ with_turn turn old
+    fed_so : (bound : Bound) (old mid new : Sitting H) (turn : decoding.Turn) (result : Result Fed ReadlineError) → mid ≡ with_turn turn old
         → ((begun : BegunLine) → mid.line ≡ Some begun → IfOk result (Came answers bound mid begun new))
         → (begun : BegunLine) → old.line ≡ Some begun → IfOk result (Came answers bound (with_turn turn old) begun new)
     fed_so bound old mid new turn result same came =
         subst (λ (m : Sitting H). (begun : BegunLine) → m.line ≡ Some begun → IfOk result (Came answers bound m begun new)) same came
 
-    pub fed_kept : (old mid new : Sitting H) (turn : decoding.Turn) (result : Result Fed ReadlineError) → mid ≡ with_turn turn old → Keeps answers mid new
+    fed_kept : (old mid new : Sitting H) (turn : decoding.Turn) (result : Result Fed ReadlineError) → mid ≡ with_turn turn old → Keeps answers mid new
         → OnOk result (Keeps answers (with_turn turn old) new)
     fed_kept old mid new turn (Ok f) same keeps = subst (λ m. Keeps answers m new) same keeps
     fed_kept old mid new turn (Err error) same keeps = tt
 
 -- nothing comes of a turn of the bytes where no line has begun
-pub fed_idle : {H : Type 0} (old mid new : Sitting H) (turn : decoding.Turn) (result : Result Fed ReadlineError) → mid ≡ with_turn turn old
+fed_idle : {H : Type 0} (old mid new : Sitting H) (turn : decoding.Turn) (result : Result Fed ReadlineError) → mid ≡ with_turn turn old
     → (mid.line ≡ None → IfOk result (λ f. (f ≡ fed.More) × (new ≡ mid)))
     → old.line ≡ None → IfOk result (λ f. (f ≡ fed.More) × (new ≡ with_turn turn old))
 fed_idle {H} old mid new turn result same idle =
     subst (λ (m : Sitting H). m.line ≡ None → IfOk result (λ f. (f ≡ fed.More) × (new ≡ m))) same idle
+
+-- and nothing is lost after a fault
+fed_left : {H : Type 0} (old mid new : Sitting H) (turn : decoding.Turn) (result : Result Fed ReadlineError) → mid ≡ with_turn turn old
+    → OnErr result (LosesNothing mid new) → OnErr result (LosesNothing old new)
+fed_left old mid new turn (Ok f) same left = tt
+fed_left {H} old mid new turn (Err error) same left = record {
+  line = left.line ∙ ap (λ (m : Sitting H). is_some m.line) same;
+  lines = left.lines ∙ ap (λ (m : Sitting H). m.lines) same;
+}
+
+-- what a call leaves that reads the terminal, by the turns that it takes
+pub feeds_so : {H : Type 0} (answers : H → List (List ℕ) → Environment) (bound : Bound) (old mid new : Sitting H) (turn : decoding.Turn) (result : Result Fed ReadlineError)
+    → mid ≡ with_turn turn old → ((begun : BegunLine) → mid.line ≡ Some begun → IfOk result (Came answers bound mid begun new)) → Keeps answers mid new
+    → (mid.line ≡ None → IfOk result (λ f. (f ≡ fed.More) × (new ≡ mid))) → OnErr result (LosesNothing mid new) → FaultsOnly result
+    → Feeds answers bound turn old new result
+feeds_so answers bound old mid new turn result same came keeps idle left faults = record {
+  came = fed_so answers bound old mid new turn result same came;
+  keeps = fed_kept answers old mid new turn result same keeps;
+  idle = fed_idle old mid new turn result same idle;
+  left = fed_left old mid new turn result same left;
+  faults = faults;
+}
 
 -- the items of a turn were appended to those of a line
 pub turn_so : {H : Type 0} (old mid : Sitting H) (turn : decoding.Turn) (left : decoding.Standing) (before after : Queued) (result : Result (Unit {0}) ReadlineError) → OnOk result (Gives turn left before after)

@@ -5,7 +5,7 @@ use Rattle.line_buffer.specs.KillRing as rings
 use Rattle.line_config.specs.Settings.{Settings}
 use Rattle.line_keys.specs.Command.{Command}
 use Rattle.line_keys.specs.Display.{Display}
-use Rattle.line_keys.specs.Draft.{Draft, hinted}
+use Rattle.line_keys.specs.Draft.{Draft}
 use Rattle.line_keys.specs.Drawing.{Drew}
 use Rattle.line_keys.specs.Frame.{Frame}
 use Rattle.line_keys.specs.Item.{Item, key, paste}
@@ -15,7 +15,7 @@ use Rattle.line_parts.specs.Environment.{Environment}
 use Rattle.line_editor.specs.Editor.{Answer, Editor, Ruler, ended, interrupted, own_ruler, proceeds, ruler_of, submitted}
 use Rattle.line_editor.specs.Input.{Input}
 use Rattle.line_editor.specs.ItemShown.{any_drawn, drawing_shown, kept, last_drawn, times_drawn}
-use Rattle.line_editor.specs.Keymap.{KeyState, keymap_of}
+use Rattle.line_editor.specs.Keymap.{keymap_of}
 use Rattle.line_editor.specs.Outcomes.{DrawnAfter, Executed, NeedsMoreItems, Session, editor_of, session}
 use Rattle.line_editor.specs.Phrase.{IsBeginning}
 use Rattle.line_editor.specs.Reading.{KeepsReading}
@@ -24,14 +24,13 @@ use Rattle.line_editor.specs.Step.{step}
 use Rattle.line_editor.specs.declared.run.Turned.{Turned}
 use Rattle.line_editor.specs.declared.run.Turned.TheVariants as turned
 use Rattle.line_editor.proofs.DrawnLemmas.{frame_then}
-use Rattle.line_session.specs.Steps.{DoesItem, Ends, ItemTaken, NoneComesIn, Rules, Standing, Steps, TurnFrom, as_it_is, character_of, comes_in, is_suspended, resumed, reads_no_command, typing}
+use Rattle.line_session.specs.Steps.{DoesItem, Ends, ItemTaken, NoneComesIn, Rules, Standing, Steps, TurnFrom, as_it_is, character_of, comes_in, reads_no_command, typing}
 use Rattle.line_session.specs.Steps as steps
 use Rattle.line_session.specs.Taken.{ComesTo, DrawnBehind, DrawnOnce, IsShown, IsShownIn, IsShownWith, KeepsRules, PutsIn, TakesItem, TakesOne, WaitsBehind, is_settled, rules_by, rules_of, standing_of, start_of}
 use Rattle.line_session.specs.declared.mode.Mode.{Mode}
 use Rattle.line_session.specs.declared.mode.Mode.TheVariants as modes
 use Rattle.line_session.proofs.DrawLemmas.{drawn_or_kept, line_by, shown_by}
 use Rattle.line_session.proofs.ModeLemmas.{settled_by, shown_with}
-use Rattle.line_session.proofs.StepLemmas.{starts_so}
 use Rattle.line_session.proofs.TurnLemmas.{own_there, rules_stay}
 
 -- the command that puts an item in proceeds, opens no group, and a kill joins none of those before
@@ -114,10 +113,6 @@ module _ {X Y : Type 0} (e : editors.Ghosts X) (r : readers.Ghosts Y) (settings 
             keeps = record { frame = going.keeps.frame; own = own ∙ going.keeps.own; bound = going.keeps.bound };
             shown = subst (λ items. IsShownWith e mode items now.state) (sym rest) going.shown;
           }
-
-      -- the same in a mode that is equal
-      pub goes_in : (other : Mode) → other ≡ mode → Going other now
-      goes_in other same = subst (λ m. Going m now) (sym same) going
 
       -- an item was taken by itself
       pub takes_on : (next : Mode) (item : Item) (state : X) (reader : Y) (kills : Ring) → TakesItem e settings now.keys.input mode item now.state now.kills state kills next
@@ -271,26 +266,12 @@ stops_drawn e items items' turned.Ended then_ state goes more drawn = drawn
 stops_drawn e items items' turned.Interrupted then_ state goes more drawn = drawn
 stops_drawn e items items' turned.NeedsMore then_ state goes more drawn = absurd (more refl)
 
--- turns that were taken once a program that was suspended had drawn the line come from where the call begins
-pub comes_resumed : {X Y : Type 0} (e : editors.Ghosts X) (r : readers.Ghosts Y) (settings : Settings) (draws : Bool) (mode : Mode) (before mid : Session X Y) (settled : Bool) (end : Standing) (done : Turned)
-    → e.draft mid.state ≡ hinted (e.environment before.state) (e.draft before.state) → Frame e before.state mid.state
-    → mid.keys ≡ before.keys → mid.reader ≡ before.reader → mid.kills ≡ before.kills → is_suspended mode ≡ true
-    → ComesTo settled (rules_of e r settings mid) (standing_of e r modes.Editing mid) end done
+-- turns that were taken once the line was drawn that was to be drawn come from where the call begins
+pub comes_begun : {X Y : Type 0} (e : editors.Ghosts X) (r : readers.Ghosts Y) (settings : Settings) (draws : Bool) (mode next : Mode) (before : Session X Y) (state : X) (settled : Bool) (end : Standing) (done : Turned)
+    → start_of e r draws mode before ≡ standing_of e r next (session state before.keys before.reader before.kills) → Frame e before.state state
+    → ComesTo settled (rules_of e r settings (session state before.keys before.reader before.kills)) (standing_of e r next (session state before.keys before.reader before.kills)) end done
     → ComesTo settled (rules_of e r settings before) (start_of e r draws mode before) end done
-comes_resumed e r settings draws mode before mid settled end done draft frame keys reader kills suspended comes =
-    subst (λ s. ComesTo settled (rules_of e r settings before) s end done) (sym (starts_so (e.environment before.state) draws (standing_of e r mode before) true suspended))
-    (subst (λ by. ComesTo settled by drawn end done) rules_same (subst (λ s. ComesTo settled (rules_of e r settings mid) s end done) same comes))
-  where
-    drawn : Standing
-    drawn = resumed (e.environment before.state) (standing_of e r mode before)
-
-    same : standing_of e r modes.Editing mid ≡ drawn
-    same = ap (λ d. record { editor = record { draft = d; kills = mid.kills }; input = mid.keys.input; items = r.rest mid.reader; mode = modes.Editing }) draft
-        ∙ ap (λ k. record { editor = record { draft = hinted (e.environment before.state) (e.draft before.state); kills = k }; input = mid.keys.input; items = r.rest mid.reader; mode = modes.Editing }) kills
-        ∙ ap (λ (k : KeyState). record { editor = record { draft = hinted (e.environment before.state) (e.draft before.state); kills = before.kills }; input = k.input; items = r.rest mid.reader; mode = modes.Editing }) keys
-        ∙ ap (λ x. record { editor = record { draft = hinted (e.environment before.state) (e.draft before.state); kills = before.kills }; input = before.keys.input; items = r.rest x; mode = modes.Editing }) reader
-
-    rules_same : rules_of e r settings mid ≡ rules_of e r settings before
-    rules_same = ap (λ (k : KeyState). rules_by e (keymap_of k (r.own_binding (r.kept mid.reader))) settings mid.state) keys
-        ∙ ap (λ x. rules_by e (keymap_of before.keys (r.own_binding (r.kept x))) settings mid.state) reader
-        ∙ rules_stay e (keymap_of before.keys (r.own_binding (r.kept before.reader))) settings before.state mid.state frame
+comes_begun e r settings draws mode next before state settled end done starts frame comes =
+    subst (λ s. ComesTo settled (rules_of e r settings before) s end done) (sym starts)
+    (subst (λ by. ComesTo settled by (standing_of e r next (session state before.keys before.reader before.kills)) end done)
+    (rules_stay e (keymap_of before.keys (r.own_binding (r.kept before.reader))) settings before.state state frame) comes)

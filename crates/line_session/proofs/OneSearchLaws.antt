@@ -14,8 +14,9 @@ use Rattle.line_editor.specs.Completing.{taken_back_once}
 use Rattle.line_editor.specs.HistoryMoves.{at_index, boundary_or_end, is_boundary, is_own_line, put_alone, text_grows, text_put}
 use Rattle.line_session.specs.OneSearch.{GivingUpSearchRestores, Restores, SearchIsOneChange, SearchedThrough}
 use Rattle.line_session.specs.OneSearch as one_search
-use Rattle.line_session.specs.Searching.{Aim, Search, ShowsSearch, aim_put, back_to, before_search, found_grows, found_put, grown_by, led_to, search_of}
+use Rattle.line_session.specs.Searching.{Search, ShowsSearch, back_to, before_search, found_grows, found_put, grown_by, led_to, place_put, search_of}
 use Rattle.line_session.specs.declared.mode.Mode.{Mode}
+use Rattle.line_session.specs.declared.searching.Place.{Place}
 use Rattle.line_session.specs.declared.searching.SearchCmd.{SearchCmd}
 use Rattle.line_session.specs.declared.searching.SearchCmd.TheVariants as cmds
 
@@ -90,18 +91,18 @@ text_back environment (Some text) pos index draft = by_saved (is_own_line enviro
         ∙ update_back (ended draft.changes) draft.line.text text (boundary_or_end text pos) refl
 
 -- what a search shows, taken back
-shown_back : (environment : Environment) (aim : Aim) (before : Draft)
-    → (without (grown_by environment aim before) (hinted environment (aim_put environment aim before))).line.text ≡ before.line.text
-shown_back environment aim before = by_pos aim.pos
+shown_back : (environment : Environment) (place : Place) (before : Draft)
+    → (without (grown_by environment place before) (hinted environment (place_put environment place before))).line.text ≡ before.line.text
+shown_back environment place before = by_pos place.pos
   where
-    by_pos : (pos : Option ℕ) → (without (found_grows environment pos aim.index before) (hinted environment (found_put environment pos aim.index before))).line.text ≡ before.line.text
+    by_pos : (pos : Option ℕ) → (without (found_grows environment pos place.index before) (hinted environment (found_put environment pos place.index before))).line.text ≡ before.line.text
     by_pos None = refl
-    by_pos (Some pos) = text_back environment (slice_get environment.lines aim.index) pos aim.index before
+    by_pos (Some pos) = text_back environment (slice_get environment.lines place.index) pos place.index before
 
 -- the search with the shorter term began where this one did
-back_stays : (shorter : List Aim) (search : Search) → ((back_to shorter search).pos ≡ search.pos) × ((back_to shorter search).index ≡ search.index)
+back_stays : (shorter : List Place) (search : Search) → ((back_to shorter search).pos ≡ search.pos) × ((back_to shorter search).index ≡ search.index)
 back_stays [] search = (refl, refl)
-back_stays (aim ∷ shorter) search = (refl, refl)
+back_stays (place ∷ shorter) search = (refl, refl)
 
 led_stays : (environment : Environment) (says : SearchCmd) (search : Search) → ((led_to environment says search).pos ≡ search.pos) × ((led_to environment says search).index ≡ search.index)
 led_stays environment (cmds.Extend c) search = (refl, refl)
@@ -132,8 +133,8 @@ shows_so : (environment : Environment) (start before new : Draft) (search : Sear
     → before.line.text ≡ start.line.text → (shows : ShowsSearch environment search before new mode) → Began start (search_of shows.searching) new
 shows_so environment start before new search mode pos index text shows = record {
   text = ap (λ (s : Search). (without s.grown new).line.text) shows.next
-      ∙ ap (λ d. (without (grown_by environment search.now before) d).line.text) shows.shown
-      ∙ shown_back environment search.now before ∙ text;
+      ∙ ap (λ d. (without (grown_by environment search.place before) d).line.text) shows.shown
+      ∙ shown_back environment search.place before ∙ text;
   pos = ap (λ (s : Search). s.pos) shows.next ∙ pos;
   index = ap (λ (s : Search). s.index) shows.next ∙ index;
 }

@@ -1,161 +1,150 @@
 -- Facts on searches through the history.
-use Rattle.std.proofs.Common.{◌≡◌, ◌∙◌, ℕ, ◌-◌, Bool, true, false, List, [], ◌∷◌, ◌++◌, length, map, reverse, Option, Some, None, refl, sym, ap, ap₂, subst, arith, option_map, if◌then◌else◌}
-use Rattle.std.specs.Prelude.{◌==◌, MatchBool, encode_utf8, option_and_then, option_to_list, string_bytes}
+use Rattle.std.proofs.Common.{◌≡◌, ◌∙◌, ◌≤◌, ℕ, ◌+◌, ◌-◌, Bool, true, false, List, [], ◌∷◌, ◌++◌, length, take, reverse, Option, Some, None, refl, sym, ap, ap₂, subst, arith, option_map}
+use Rattle.std.specs.Prelude.{◌==◌, IfNone, IfOk, IfSome, MatchBool, Result, Ok, Err, String, chars, encode_utf8, encode_utf8_all, option_and_then, string_bytes, string_len}
 use Rattle.std.proofs.lemmas.Bool.Decides.{nat_tests}
-use Rattle.std.proofs.lemmas.List.{map-append, reverse-append}
+use Rattle.std.proofs.lemmas.List.{length-append, reverse-append}
+use Rattle.std.proofs.Math.Seq.{take-append_seam}
+use Rattle.std.proofs.lemmas.Str.{IsUtf8-string_bytes, chars-nil, encodes-chars}
+use Rattle.line_buffer.proofs.PartLemmas.{chars-pushed}
+use Rattle.line_config.specs.declared.error.ReadlineError.{ReadlineError}
 use Rattle.line_keys.specs.Draft.{Draft, hinted}
 use Rattle.line_parts.specs.Environment.{Environment}
 use Rattle.line_parts.specs.History.{found_of, search_in}
+use Rattle.line_parts.specs.Quoting.{without_last}
 use Rattle.line_parts.specs.declared.history.SearchDirection.{SearchDirection}
 use Rattle.line_parts.specs.declared.history.SearchResult.{SearchResult}
-use Rattle.line_editor.specs.Completing.{taken_back_once}
-use Rattle.line_editor.specs.HistoryMoves.{returned_to}
-use Rattle.line_session.specs.Searching.{Aim, BeginsSearch, Searches, ShowsSearch, aim_of, aim_put, aimed, GoesOn, back_to, before_search, extended, first_search, gone_on, grown_by, led_to, next_start, search_of, shortened}
+use Rattle.line_session.specs.Searching.{BeginsSearch, GoesOn, Search, Searches, ShowsSearch, back_to, before_search, extended, first_search, gone_on, grown_by, led_to, less_one_char, next_place, next_start, place_put, search_of, shortened}
 use Rattle.line_session.specs.declared.mode.Mode.{Mode}
 use Rattle.line_session.specs.declared.mode.Mode.TheVariants as modes
+use Rattle.line_session.specs.declared.searching.Place.{Place}
 use Rattle.line_session.specs.declared.searching.SearchCmd.{SearchCmd}
 use Rattle.line_session.specs.declared.searching.SearchCmd.TheVariants as cmds
 use Rattle.line_session.specs.declared.searching.Searching.{Searching}
-use Rattle.line_session.specs.declared.searching.Sought.{Sought}
 
 -- where a search stands, by what the history found
-pub seeks_so : (lines lines' : List (List ℕ)) (term : List ℕ) (before now : Aim) (from : Option ℕ) (start : ℕ) (direction : SearchDirection) (found : Option SearchResult)
-    → from ≡ Some start → lines ≡ lines' → option_map found_of found ≡ search_in lines term start direction → now ≡ aimed term before (option_map found_of found)
-    → now ≡ aimed term before (option_and_then (λ start. search_in lines' term start direction) from)
-seeks_so lines lines' term before now from start direction found is same finds stands =
-    stands ∙ ap (λ f. aimed term before f) (finds ∙ ap (λ l. search_in l term start direction) same)
-    ∙ ap (λ s. aimed term before (option_and_then (λ start. search_in lines' term start direction) s)) (sym is)
+pub seeks_so : (lines : List (List ℕ)) (term : List ℕ) (before place : Place) (from : Option ℕ) (start : ℕ) (direction : SearchDirection) (found : Option SearchResult)
+    → from ≡ Some start → option_map found_of found ≡ search_in lines term start direction → place ≡ next_place before (option_map found_of found)
+    → place ≡ next_place before (option_and_then (λ start. search_in lines term start direction) from)
+seeks_so lines term before place from start direction found is finds stands =
+    stands ∙ ap (λ f. next_place before f) finds
+    ∙ ap (λ s. next_place before (option_and_then (λ start. search_in lines term start direction) s)) (sym is)
 
 -- what was found is shown
 pub shows_it : (w w1 w2 : Environment) (searching next : Searching) (before d1 d2 d3 : Draft) (grown : Bool) → w1 ≡ w → w2 ≡ w1 → d1 ≡ before
-    → d2 ≡ aim_put w1 (aim_of searching.now) d1 → grown ≡ grown_by w1 (aim_of searching.now) d1 → d3 ≡ hinted w2 d2 → next ≡ record searching { grown = grown }
+    → d2 ≡ place_put w1 searching.place d1 → grown ≡ grown_by w1 searching.place d1 → d3 ≡ hinted w2 d2 → next ≡ record searching { grown = grown }
     → ShowsSearch w (search_of searching) before d3 (modes.Searching next)
 shows_it w w1 w2 searching next before d1 d2 d3 grown same1 same2 at put grows shown is = record {
   searching = next;
   mode_is = refl;
   next = ap (λ s. search_of s) is
-      ∙ ap (λ g. record (search_of searching) { grown = g }) (grows ∙ ap₂ (λ w d. grown_by w (aim_of searching.now) d) same1 at);
-  shown = shown ∙ ap₂ (λ w d. hinted w d) (same2 ∙ same1) (put ∙ ap₂ (λ w d. aim_put w (aim_of searching.now) d) same1 at);
+      ∙ ap (λ g. record (search_of searching) { grown = g }) (grows ∙ ap₂ (λ w d. grown_by w searching.place d) same1 at);
+  shown = shown ∙ ap₂ (λ w d. hinted w d) (same2 ∙ same1) (put ∙ ap₂ (λ w d. place_put w searching.place d) same1 at);
 }
 
--- one more comes first where the newest come first
-newest_first : (items : List Sought) (last : Sought) → reverse (map aim_of (items ++ last ∷ [])) ≡ aim_of last ∷ reverse (map aim_of items)
-newest_first items last = ap (λ l. reverse l) (map-append aim_of items (last ∷ [])) ∙ reverse-append (map aim_of items) (aim_of last ∷ [])
-
 -- a search of its parts
-parts : (next : Searching) (now : Aim) (shorter : List Aim) (searching : Searching) → aim_of next.now ≡ now → reverse (map aim_of next.shorter.items) ≡ shorter
-    → next.direction ≡ searching.direction → next.pos ≡ searching.pos → next.index ≡ searching.index → next.grown ≡ searching.grown
-    → search_of next ≡ record (search_of searching) { now = now; shorter = shorter }
-parts next now shorter searching at left direction pos index grown =
-    ap (λ a. record (search_of next) { now = a }) at
-    ∙ ap (λ l. record (search_of next) { now = now; shorter = l }) left
-    ∙ ap (λ d. record (search_of next) { now = now; shorter = shorter; direction = d }) direction
-    ∙ ap (λ p. record (search_of next) { now = now; shorter = shorter; direction = searching.direction; pos = p }) pos
-    ∙ ap (λ i. record (search_of next) { now = now; shorter = shorter; direction = searching.direction; pos = searching.pos; index = i }) index
-    ∙ ap (λ g. record { now = now; shorter = shorter; direction = searching.direction; pos = searching.pos; index = searching.index; grown = g }) grown
+parts : (search : Search) (term term' : List ℕ) (place place' : Place) (shorter shorter' : List Place) → term ≡ term' → place ≡ place' → shorter ≡ shorter'
+    → record search { term = term; place = place; shorter = shorter } ≡ record search { term = term'; place = place'; shorter = shorter' }
+parts search term term' place place' shorter shorter' same there left =
+    ap (λ t. record search { term = t; place = place; shorter = shorter }) same
+    ∙ ap (λ p. record search { term = term'; place = p; shorter = shorter }) there
+    ∙ ap (λ l. record search { term = term'; place = place'; shorter = l }) left
 
--- nothing is left to take of an empty list
-none_shorter : (items : List Sought) → length items ≡ 0 → items ≡ []
-none_shorter [] none = refl
-none_shorter (first ∷ more) none = absurd (omega (arith, none))
+-- one more comes first where the newest come first
+pub newest_first : (places more : List Place) (last : Place) → more ≡ places ++ last ∷ [] → reverse more ≡ last ∷ reverse places
+newest_first places more last is = ap (λ l. reverse l) is ∙ reverse-append places (last ∷ [])
 
-shortened_so : (searching next : Searching) (popped : Option Sought) → searching.shorter.items ≡ next.shorter.items ++ option_to_list popped
-    → (popped ≡ None → length searching.shorter.items ≡ 0) → (popped ≡ None → next.now ≡ searching.now) → ((last : Sought) → popped ≡ Some last → next.now ≡ last)
-    → next.direction ≡ searching.direction → next.pos ≡ searching.pos → next.index ≡ searching.index → next.grown ≡ searching.grown
-    → search_of next ≡ shortened (search_of searching)
-shortened_so searching next None items none stays moves direction pos index grown =
-    let old : searching.shorter.items ≡ [] = none_shorter searching.shorter.items (none refl) in
-    let new : next.shorter.items ≡ [] = none_left next.shorter.items (sym items ∙ old) in
-    parts next (aim_of searching.now) [] searching (ap (λ s. aim_of s) (stays refl)) (ap (λ l. reverse (map aim_of l)) new) direction pos index grown
-    ∙ sym (ap (λ l. back_to l (record (search_of searching) { shorter = l })) (ap (λ l. reverse (map aim_of l)) old))
+-- what stands before the last of a list
+without_pushed : (cs : List ℕ) (c : ℕ) → without_last (cs ++ c ∷ []) ≡ cs
+without_pushed cs c =
+    let fewer : length (cs ++ c ∷ []) - 1 ≡ length cs = omega (arith, length-append cs (c ∷ [])) in
+    ap (λ n. take n (cs ++ c ∷ [])) fewer ∙ take-append_seam cs (c ∷ [])
+
+-- a text whose last character is taken off
+pub less_one : {Z : Type 0} (old new : String Z) (popped : Option ℕ) → IfSome popped (λ c. string_bytes old ≡ string_bytes new ++ encode_utf8 c)
+    → IfNone popped (string_len old ≡ 0) → string_len new ≤ string_len old → string_bytes new ≡ less_one_char (string_bytes old)
+less_one old new None taken none fewer =
+    empty (string_bytes old) (string_bytes new) (omega (arith, none, old.bytes.ok.0)) (omega (arith, none, fewer, new.bytes.ok.0))
   where
-    none_left : (l : List Sought) → l ++ [] ≡ [] → l ≡ []
-    none_left [] is = refl
-    none_left (first ∷ more) is = absurd (cc)
-shortened_so searching next (Some last) items none stays moves direction pos index grown =
-    let old : reverse (map aim_of searching.shorter.items) ≡ aim_of last ∷ reverse (map aim_of next.shorter.items) =
-    ap (λ l. reverse (map aim_of l)) items ∙ newest_first next.shorter.items last in
-    parts next (aim_of last) (reverse (map aim_of next.shorter.items)) searching (ap (λ s. aim_of s) (moves last refl)) refl direction pos index grown
-    ∙ sym (ap (λ l. back_to l (record (search_of searching) { shorter = l })) old)
+    empty : (text front : List ℕ) → length text ≡ 0 → length front ≡ 0 → front ≡ less_one_char text
+    empty [] [] none none' = sym (ap (λ cs. encode_utf8_all (without_last cs)) chars-nil)
+    empty [] (b ∷ bs) none none' = absurd (omega (arith, none'))
+    empty (b ∷ bs) front none none' = absurd (omega (arith, none))
+less_one old new (Some c) taken none fewer =
+    sym (ap (λ cs. encode_utf8_all (without_last cs)) (chars-pushed (string_bytes old) (string_bytes new) c (IsUtf8-string_bytes old) (IsUtf8-string_bytes new) taken)
+    ∙ ap (λ cs. encode_utf8_all cs) (without_pushed (chars (string_bytes new)) c) ∙ encodes-chars (string_bytes new) (IsUtf8-string_bytes new))
 
-extended_so : (w : Environment) (c : ℕ) (searching next : Searching) (term : List ℕ) → term ≡ string_bytes searching.now.term ++ encode_utf8 c
-    → aim_of next.now ≡ aimed term (aim_of searching.now) (option_and_then (λ start. search_in w.lines term start searching.direction) (Some searching.now.index))
-    → next.shorter.items ≡ searching.shorter.items ++ searching.now ∷ []
-    → next.direction ≡ searching.direction → next.pos ≡ searching.pos → next.index ≡ searching.index → next.grown ≡ searching.grown
-    → search_of next ≡ extended w c (search_of searching)
-extended_so w c searching next term is now shorter direction pos index grown =
-    parts next (aimed (string_bytes searching.now.term ++ encode_utf8 c) (aim_of searching.now) (search_in w.lines (string_bytes searching.now.term ++ encode_utf8 c) searching.now.index searching.direction))
-    (aim_of searching.now ∷ reverse (map aim_of searching.shorter.items)) searching
-    (now ∙ ap (λ t. aimed t (aim_of searching.now) (search_in w.lines t searching.now.index searching.direction)) is)
-    (ap (λ l. reverse (map aim_of l)) shorter ∙ newest_first searching.shorter.items searching.now) direction pos index grown
+-- the term gets a character
+pub extended_so : (w : Environment) (c : ℕ) (search : Search) (term : List ℕ) (place : Place) (shorter : List Place) → term ≡ search.term ++ encode_utf8 c
+    → place ≡ next_place search.place (search_in w.lines term search.place.index search.direction) → shorter ≡ search.place ∷ search.shorter
+    → record search { term = term; place = place; shorter = shorter } ≡ extended w c search
+extended_so w c search term place shorter grown there left =
+    parts search term (search.term ++ encode_utf8 c) place (next_place search.place (search_in w.lines (search.term ++ encode_utf8 c) search.place.index search.direction))
+    shorter (search.place ∷ search.shorter) grown
+    (there ∙ ap (λ t. next_place search.place (search_in w.lines t search.place.index search.direction)) grown) left
 
-gone_on_so : (w : Environment) (direction : SearchDirection) (searching next : Searching) (term : List ℕ) (count : ℕ) (start : Option ℕ) → term ≡ string_bytes searching.now.term
-    → count ≡ length w.lines → start ≡ next_start direction count searching.now.index
-    → aim_of next.now ≡ aimed term (aim_of searching.now) (option_and_then (λ start. search_in w.lines term start direction) start)
-    → next.shorter ≡ searching.shorter → next.direction ≡ direction → next.pos ≡ searching.pos → next.index ≡ searching.index → next.grown ≡ searching.grown
-    → search_of next ≡ gone_on w direction (search_of searching)
-gone_on_so w direction searching next term count start is counted from now shorter towards pos index grown =
-    parts next (aimed (string_bytes searching.now.term) (aim_of searching.now)
-    (option_and_then (λ start. search_in w.lines (string_bytes searching.now.term) start direction) (next_start direction (length w.lines) searching.now.index)))
-    (reverse (map aim_of searching.shorter.items)) (record searching { direction = direction })
-    (now ∙ ap₂ (λ t s. aimed t (aim_of searching.now) (option_and_then (λ start. search_in w.lines t start direction) s)) is (from ∙ ap (λ n. next_start direction n searching.now.index) counted))
-    (ap (λ s. reverse (map aim_of s.items)) shorter) towards pos index grown
+-- the term loses its last character
+pub shortened_so : (search : Search) (term : List ℕ) (place : Place) (shorter : List Place) → search.shorter ≡ place ∷ shorter → term ≡ less_one_char search.term
+    → record search { term = term; place = place; shorter = shorter } ≡ shortened search
+shortened_so search term place shorter stood less =
+    ap (λ t. record search { term = t; place = place; shorter = shorter }) less
+    ∙ sym (ap (λ l. back_to l search) stood)
+
+-- the search goes on in a direction
+pub gone_on_so : (w : Environment) (direction : SearchDirection) (search : Search) (place : Place) (count : ℕ) (start : Option ℕ) → count ≡ length w.lines
+    → start ≡ next_start direction count search.place.index
+    → place ≡ next_place search.place (option_and_then (λ start. search_in w.lines search.term start direction) start)
+    → record search { place = place; direction = direction } ≡ gone_on w direction search
+gone_on_so w direction search place count start counted from there =
+    ap (λ p. record search { place = p; direction = direction })
+    (there ∙ ap (λ s. next_place search.place (option_and_then (λ start. search_in w.lines search.term start direction) s))
+    (from ∙ ap (λ n. next_start direction n search.place.index) counted))
+
+-- what a command leads to is shown in place of the same line from before
+led_stays : (w : Environment) (says : SearchCmd) (search : Search) (old : Draft) → before_search w (led_to w says search) old ≡ before_search w search old
+led_stays w (cmds.Extend c) search old = refl
+led_stays w cmds.Shorten search old = back_stays search.shorter
+  where
+    back_stays : (shorter : List Place) → before_search w (back_to shorter search) old ≡ before_search w search old
+    back_stays [] = refl
+    back_stays (place ∷ shorter) = refl
+led_stays w (cmds.GoOn direction) search old = refl
+led_stays w cmds.GiveUp search old = refl
+
+-- the search that goes on is shown
+pub goes_on : (w : Environment) (says : SearchCmd) (search next : Search) (old new : Draft) (result : Result Mode ReadlineError) → (says ≡ cmds.GiveUp → ⊥) → next ≡ led_to w says search
+    → IfOk result (ShowsSearch w next (before_search w next old) new) → IfOk result (Searches w search says old new)
+goes_on w says search next old new (Ok mode) goes is shows =
+    by_command says goes (subst (λ d. ShowsSearch w (led_to w says search) d new mode) (led_stays w says search old)
+    (subst (λ s. ShowsSearch w s (before_search w s old) new mode) is shows))
+  where
+    by_command : (says : SearchCmd) → (says ≡ cmds.GiveUp → ⊥) → GoesOn w says search old new mode → Searches w search says old new mode
+    by_command (cmds.Extend c) goes on = on
+    by_command cmds.Shorten goes on = on
+    by_command (cmds.GoOn direction) goes on = on
+    by_command cmds.GiveUp goes on = absurd (goes refl)
+goes_on w says search next old new (Err e) goes is shows = tt
 
 -- a search that began
-pub begins_so : (w : Environment) (direction : SearchDirection) (old new : Draft) (searching : Searching) (lines : List (List ℕ)) (count : ℕ) → lines ≡ w.lines → count ≡ length lines → (count ≡ 0 → ⊥)
-    → aim_of searching.now ≡ record { term = []; index = count - 1; pos = None; failed = false } → searching.shorter.items ≡ [] → searching.direction ≡ direction
-    → searching.pos ≡ old.line.cursor → searching.index ≡ old.index → searching.grown ≡ false → new ≡ hinted w old
+pub begins_so : (w : Environment) (direction : SearchDirection) (old new : Draft) (searching : Searching) (count : ℕ) → count ≡ length w.lines → (count ≡ 0 → ⊥)
+    → string_bytes searching.term ≡ [] → searching.place ≡ record { index = count - 1; pos = None; failed = false } → searching.shorter.items ≡ []
+    → searching.direction ≡ direction → searching.pos ≡ old.line.cursor → searching.index ≡ old.index → searching.grown ≡ false → new ≡ hinted w old
     → BeginsSearch w direction old new (modes.Searching searching)
-begins_so w direction old new searching lines count same counted some now shorter towards pos index grown shown =
+begins_so w direction old new searching count counted some empty first shorter towards pos index grown shown =
     by_lines (length w.lines == 0) refl
   where
     is : search_of searching ≡ first_search w direction old
     is =
-        ap (λ a. record (search_of searching) { now = a }) (now ∙ ap (λ n. record { term = []; index = n - 1; pos = None; failed = false }) (counted ∙ ap (λ l. length l) same))
-        ∙ ap (λ l. record (search_of searching) { now = (first_search w direction old).now; shorter = reverse (map aim_of l) }) shorter
-        ∙ ap (λ d. record (search_of searching) { now = (first_search w direction old).now; shorter = []; direction = d }) towards
-        ∙ ap (λ p. record (search_of searching) { now = (first_search w direction old).now; shorter = []; direction = direction; pos = p }) pos
-        ∙ ap (λ i. record (search_of searching) { now = (first_search w direction old).now; shorter = []; direction = direction; pos = old.line.cursor; index = i }) index
+        parts (search_of searching) (string_bytes searching.term) [] searching.place (first_search w direction old).place (reverse searching.shorter.items) [] empty
+        (first ∙ ap (λ n. record { index = n - 1; pos = None; failed = false }) counted) (ap (λ l. reverse l) shorter)
+        ∙ ap (λ d. record (search_of searching) { term = []; place = (first_search w direction old).place; shorter = []; direction = d }) towards
+        ∙ ap (λ p. record (search_of searching) { term = []; place = (first_search w direction old).place; shorter = []; direction = direction; pos = p }) pos
+        ∙ ap (λ i. record (first_search w direction old) { index = i; grown = searching.grown }) index
         ∙ ap (λ g. record (first_search w direction old) { grown = g }) grown
 
     by_lines : (empty : Bool) → (length w.lines == 0) ≡ empty
         → MatchBool empty ((new ≡ old) × (modes.Searching searching ≡ modes.Editing)) (ShowsSearch w (first_search w direction old) old new (modes.Searching searching))
-    by_lines true none = absurd (some (counted ∙ ap (λ l. length l) same ∙ is_zero (length w.lines) none))
+    by_lines true none = absurd (some (counted ∙ is_zero (length w.lines) none))
       where
         is_zero : (n : ℕ) → (n == 0) ≡ true → n ≡ 0
         is_zero n none = grind (arith, nat_tests, none)
     by_lines false none = record { searching = searching; mode_is = refl; next = is; shown = shown }
-
--- the search that goes on is shown
-led_so : (w : Environment) (says : SearchCmd) (searching next : Searching) (old new : Draft) (mode : Mode)
-    → next.pos ≡ searching.pos → next.index ≡ searching.index → next.grown ≡ searching.grown → search_of next ≡ led_to w says (search_of searching)
-    → ShowsSearch w (search_of next) (before_search w (search_of next) old) new mode → GoesOn w says (search_of searching) old new mode
-led_so w says searching next old new mode pos index grown is shows =
-    let before : before_search w (search_of next) old ≡ before_search w (search_of searching) old =
-    ap (λ p. returned_to w p next.index (if next.grown then taken_back_once old else old)) pos
-    ∙ ap (λ i. returned_to w searching.pos i (if next.grown then taken_back_once old else old)) index
-    ∙ ap (λ g. returned_to w searching.pos searching.index (if g then taken_back_once old else old)) grown in
-    subst (λ s. ShowsSearch w s (before_search w (search_of searching) old) new mode) is (subst (λ d. ShowsSearch w (search_of next) d new mode) before shows)
-
-pub shortens_it : (w : Environment) (searching next : Searching) (old new : Draft) (mode : Mode) (popped : Option Sought) → searching.shorter.items ≡ next.shorter.items ++ option_to_list popped
-    → (popped ≡ None → length searching.shorter.items ≡ 0) → (popped ≡ None → next.now ≡ searching.now) → ((last : Sought) → popped ≡ Some last → next.now ≡ last)
-    → next.direction ≡ searching.direction → next.pos ≡ searching.pos → next.index ≡ searching.index → next.grown ≡ searching.grown
-    → ShowsSearch w (search_of next) (before_search w (search_of next) old) new mode → Searches w (search_of searching) cmds.Shorten old new mode
-shortens_it w searching next old new mode popped items none stays moves direction pos index grown shows =
-    led_so w cmds.Shorten searching next old new mode pos index grown (shortened_so searching next popped items none stays moves direction pos index grown) shows
-
-pub extends_it : (w : Environment) (c : ℕ) (searching next : Searching) (old new : Draft) (mode : Mode) (term : List ℕ) → term ≡ string_bytes searching.now.term ++ encode_utf8 c
-    → aim_of next.now ≡ aimed term (aim_of searching.now) (option_and_then (λ start. search_in w.lines term start searching.direction) (Some searching.now.index))
-    → next.shorter.items ≡ searching.shorter.items ++ searching.now ∷ []
-    → next.direction ≡ searching.direction → next.pos ≡ searching.pos → next.index ≡ searching.index → next.grown ≡ searching.grown
-    → ShowsSearch w (search_of next) (before_search w (search_of next) old) new mode → Searches w (search_of searching) (cmds.Extend c) old new mode
-extends_it w c searching next old new mode term is now shorter direction pos index grown shows =
-    led_so w (cmds.Extend c) searching next old new mode pos index grown (extended_so w c searching next term is now shorter direction pos index grown) shows
-
-pub goes_it : (w : Environment) (direction : SearchDirection) (searching next : Searching) (old new : Draft) (mode : Mode) (term : List ℕ) (count : ℕ) (start : Option ℕ)
-    → term ≡ string_bytes searching.now.term → count ≡ length w.lines → start ≡ next_start direction count searching.now.index
-    → aim_of next.now ≡ aimed term (aim_of searching.now) (option_and_then (λ start. search_in w.lines term start direction) start)
-    → next.shorter ≡ searching.shorter → next.direction ≡ direction → next.pos ≡ searching.pos → next.index ≡ searching.index → next.grown ≡ searching.grown
-    → ShowsSearch w (search_of next) (before_search w (search_of next) old) new mode → Searches w (search_of searching) (cmds.GoOn direction) old new mode
-goes_it w direction searching next old new mode term count start is counted from now shorter towards pos index grown shows =
-    led_so w (cmds.GoOn direction) searching next old new mode pos index grown (gone_on_so w direction searching next term count start is counted from now shorter towards pos index grown) shows

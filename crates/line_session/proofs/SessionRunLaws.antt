@@ -1,4 +1,4 @@
--- A session in which nothing is left to the program is a run.
+-- A line of which nothing is left to the program is a run.
 use Rattle.std.proofs.Common.{◌≡◌, ◌≢◌, ◌∙◌, Bool, true, false, List, None, refl, sym, ap, subst}
 use Rattle.line_keys.specs.Command.{Command}
 use Rattle.line_keys.specs.Item.{Item}
@@ -53,21 +53,21 @@ turns by from to answer turn mode none =
     }
 
 -- after steps in which nothing is left to the program commands are read
-mode_behind : (by : Rules) (start found : Standing) → start.mode ≡ Editing → (taken : Steps by false start found) → StepsLeaveNone taken → found.mode ≡ Editing
-mode_behind by start found mode steps.none none = mode
-mode_behind by start found mode (steps.turn {found = before} to turn) none = (turns by before found proceeds turn (mode_behind by start before mode to none.0) (λ _. none.1)).mode
-mode_behind by start found mode (steps.item to taken) none = absurd none
-mode_behind by start found mode (steps.resume over to goes_on) none = absurd none
+mode_behind : (by : Rules) (over_calls : Bool) (start found : Standing) → start.mode ≡ Editing → (taken : Steps by over_calls start found) → StepsLeaveNone taken → found.mode ≡ Editing
+mode_behind by over_calls start found mode steps.none none = mode
+mode_behind by over_calls start found mode (steps.turn {found = before} to turn) none = (turns by before found proceeds turn (mode_behind by over_calls start before mode to none.0) (λ _. none.1)).mode
+mode_behind by over_calls start found mode (steps.item to taken) none = absurd none
+mode_behind by over_calls start found mode (steps.resume over to goes_on) none = absurd none
 
 -- a run from where such steps lead is one from their start
-run_on : (by : Rules) (start found : Standing) (last : Editor) (input : Input) (end : End) → start.mode ≡ Editing → (taken : Steps by false start found) → StepsLeaveNone taken
+run_on : (by : Rules) (over_calls : Bool) (start found : Standing) (last : Editor) (input : Input) (end : End) → start.mode ≡ Editing → (taken : Steps by over_calls start found) → StepsLeaveNone taken
     → RunsPlainly by found last input end → RunsPlainly by start last input end
-run_on by start found last input end mode steps.none none run = run
-run_on by start found last input end mode (steps.turn {found = before} to turn) none run =
-    let made = turns by before found proceeds turn (mode_behind by start before mode to none.0) (λ _. none.1) in
-    run_on by start before last input end mode to none.0 (runs.goes_on made.taken run.0, (ap (λ r. left_by r.command) made.same ∙ none.1, run.1))
-run_on by start found last input end mode (steps.item to taken) none run = absurd none
-run_on by start found last input end mode (steps.resume over to goes_on) none run = absurd none
+run_on by over_calls start found last input end mode steps.none none run = run
+run_on by over_calls start found last input end mode (steps.turn {found = before} to turn) none run =
+    let made = turns by before found proceeds turn (mode_behind by over_calls start before mode to none.0) (λ _. none.1) in
+    run_on by over_calls start before last input end mode to none.0 (runs.goes_on made.taken run.0, (ap (λ r. left_by r.command) made.same ∙ none.1, run.1))
+run_on by over_calls start found last input end mode (steps.item to taken) none run = absurd none
+run_on by over_calls start found last input end mode (steps.resume over to goes_on) none run = absurd none
 
 abbrev is_yes : Bool → Type 0
 is_yes true = Unit {0}
@@ -76,23 +76,23 @@ is_yes false = ⊥
 true_false : true ≡ false → ⊥
 true_false same = subst is_yes same tt
 
--- a session is a run
-session_runs : (by : Rules) (start : Standing) (last : Editor) (input : Input) (end : End) → start.mode ≡ Editing → SessionPlainly by start last input end → RunsPlainly by start last input end
-session_runs by start last input (stopped answer rest) mode session =
+-- what a line comes to is a run
+session_runs : (by : Rules) (over_calls : Bool) (start : Standing) (last : Editor) (input : Input) (end : End) → start.mode ≡ Editing → SessionPlainly by over_calls start last input end → RunsPlainly by start last input end
+session_runs by over_calls start last input (stopped answer rest) mode session =
     let found = session.1.0.found in
     let stops : answer ≢ proceeds = session.0 in
-    let made = turns by found (reading_commands last input rest) answer session.1.0.last (mode_behind by start found mode session.1.0.steps session.1.1) (λ goes. absurd (stops goes)) in
-    run_on by start found last input (stopped answer rest) mode session.1.0.steps session.1.1 (runs.ends made.taken stops, tt)
-session_runs by start last input (dry items) mode session =
+    let made = turns by found (reading_commands last input rest) answer session.1.0.last (mode_behind by over_calls start found mode session.1.0.steps session.1.1) (λ goes. absurd (stops goes)) in
+    run_on by over_calls start found last input (stopped answer rest) mode session.1.0.steps session.1.1 (runs.ends made.taken stops, tt)
+session_runs by over_calls start last input (dry items) mode session =
     let waits = session.0 in
-    run_on by start waits.found last input (dry items) mode waits.steps session.1 (dries waits.shown waits.waits)
+    run_on by false start waits.found last input (dry items) mode waits.steps session.1 (dries waits.shown waits.waits)
   where
     dries : (shown : _) → WaitsIn by session.0.found last shown → RunsPlainly by session.0.found last input (dry items)
     dries shown (steps.phrase reads begins cut) =
         subst (λ i. RunsPlainly by session.0.found last i (dry items)) (sym session.0.input)
         (subst (λ i. RunsPlainly by session.0.found last session.0.found.input (dry i)) (sym session.0.items) (runs.runs_dry begins cut, tt))
     dries shown (steps.alone reads none same) =
-        absurd (true_false (sym reads ∙ ap reads_no_command (mode_behind by start session.0.found mode session.0.steps session.1)))
+        absurd (true_false (sym reads ∙ ap reads_no_command (mode_behind by false start session.0.found mode session.0.steps session.1)))
 
 -- a turn of a run is a turn from where commands are read
 turn_from : (by : Rules) (editor middle : Editor) (input input' : Input) (items more : List Item) (answer : Answer)
@@ -114,23 +114,34 @@ turn_from by editor middle input input' items more answer turn none = record {
     stays ended left = (refl, refl)
     stays interrupted left = (refl, refl)
 
--- a run from where steps lead is a session from their start
-run_back : (by : Rules) (start : Standing) (editor last : Editor) (input input' : Input) (items : List Item) (end : End)
+-- steps of a call with nothing left to the program are steps over several calls too
+as_many : (by : Rules) (over_calls : Bool) (start found : Standing) (taken : Steps by false start found) → StepsLeaveNone taken
+    → (same : Steps by over_calls start found) × StepsLeaveNone same
+as_many by over_calls start found steps.none none = (steps.none, tt)
+as_many by over_calls start found (steps.turn {found = before} to turn) none =
+    let same = as_many by over_calls start before to none.0 in
+    (steps.turn same.0 turn, (same.1, none.1))
+as_many by over_calls start found (steps.item to taken) none = absurd none
+as_many by over_calls start found (steps.resume over to goes_on) none = absurd none
+
+-- a run from where steps lead is what a line comes to from their start
+run_back : (by : Rules) (over_calls : Bool) (start : Standing) (editor last : Editor) (input input' : Input) (items : List Item) (end : End)
     (taken : Steps by false start (reading_commands editor input items)) → StepsLeaveNone taken
-    → (run : Run by.keymap by.ruler by.environment editor input items last input' end) → RunLeavesNone run → SessionPlainly by start last input' end
+    → (run : Run by.keymap by.ruler by.environment editor input items last input' end) → RunLeavesNone run → SessionPlainly by over_calls start last input' end
 unfolding turn_from
-run_back by start editor last input input' items end taken none (runs.goes_on {middle = middle} {input' = between} {more = more} turn run) left =
-    run_back by start middle last between input' more end (steps.turn taken (turn_from by editor middle input between items more proceeds turn (λ _. left.0))) (none, left.0) run left.1
-run_back by start editor last input input' items end taken none (runs.ends {rest = rest} {answer = answer} turn stops) left =
-    (stops, (record { found = reading_commands editor input items; steps = taken; last = turn_from by editor last input input' items rest answer turn (λ goes. absurd (stops goes)) }, none))
-run_back by start editor last input input' items end taken none (runs.runs_dry begins cut) left =
+run_back by over_calls start editor last input input' items end taken none (runs.goes_on {middle = middle} {input' = between} {more = more} turn run) left =
+    run_back by over_calls start middle last between input' more end (steps.turn taken (turn_from by editor middle input between items more proceeds turn (λ _. left.0))) (none, left.0) run left.1
+run_back by over_calls start editor last input input' items end taken none (runs.ends {rest = rest} {answer = answer} turn stops) left =
+    let same = as_many by over_calls start (reading_commands editor input items) taken none in
+    (stops, (record { found = reading_commands editor input items; steps = same.0; last = turn_from by editor last input input' items rest answer turn (λ goes. absurd (stops goes)) }, same.1))
+run_back by over_calls start editor last input input' items end taken none (runs.runs_dry begins cut) left =
     (record { found = reading_commands editor input items; steps = taken; shown = begins.shown; waits = steps.phrase refl begins cut; input = refl; items = refl; mode = refl }, none)
 
 pub session-is-run : SessionIsRun
-session-is-run by start last input end mode =
+session-is-run by over_calls start last input end mode =
     let begins = reading_commands start.editor start.input start.items in (
-      subst (λ s. RunsPlainly by s last input end → SessionPlainly by s last input end)
+      subst (λ s. RunsPlainly by s last input end → SessionPlainly by over_calls s last input end)
           (sym (ap (λ m. record { editor = start.editor; input = start.input; items = start.items; mode = m }) mode))
-          (λ run. run_back by begins start.editor last start.input input start.items end steps.none tt run.0 run.1),
-      session_runs by start last input end mode,
+          (λ run. run_back by over_calls begins start.editor last start.input input start.items end steps.none tt run.0 run.1),
+      session_runs by over_calls start last input end mode,
     )

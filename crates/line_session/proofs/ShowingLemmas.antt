@@ -12,7 +12,7 @@ use Rattle.line_editor.specs.Released.{KeptDraft}
 use Rattle.line_term.specs.Shown.{EndsInRows, IsOnTerminal}
 use Rattle.line_session.specs.Kept.{Fits, IsShownWithItems}
 use Rattle.line_session.specs.OnTerminal.{IsLineInModeOn, IsLineOn, ShowsBegun, screen_of}
-use Rattle.line_session.specs.Searching.{aim_of, search_prompt}
+use Rattle.line_session.specs.Searching.{search_of, search_prompt}
 use Rattle.line_session.specs.Sitting.{BegunLine, Sitting}
 use Rattle.line_session.specs.declared.mode.Mode.{Mode}
 use Rattle.line_session.specs.declared.mode.Mode.TheVariants as modes
@@ -55,7 +55,7 @@ shows_in_mode contents columns out (modes.Offering candidates) items environment
     (shown.trailing, shown.trails, in_full contents columns out _ prompt _ _ _ measure (sym ends ∙ ap (λ m. m prompt corner) measure) shown.in_full told)
 shows_in_mode contents columns out (modes.Listing listing) items environment prompt kept surface screen measure ends shown told = tt
 shows_in_mode contents columns out (modes.Searching searching) items environment prompt kept surface screen measure ends shown told = λ none.
-    let prompt' = search_prompt (aim_of searching.now) in
+    let prompt' = search_prompt (search_of searching) in
     in_full contents columns out _ prompt' _ _ _ measure (ap (λ m. m prompt' corner) measure) (shown none) told
 shows_in_mode contents columns out modes.Suspended items environment prompt kept surface screen measure ends shown told = tt
 

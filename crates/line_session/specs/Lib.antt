@@ -1,5 +1,6 @@
 pub mod Completing
 pub mod Filed
+pub mod Heard
 pub mod Kept
 pub mod OnTerminal
 pub mod OneChange

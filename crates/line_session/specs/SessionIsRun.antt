@@ -1,4 +1,4 @@
--- Sessions and runs of the abstract editor.
+-- Lines of a session and runs of the abstract editor.
 use Rattle.std.specs.Prelude.{◌≡◌, ◌≢◌, ◌↔◌, Bool, false, List, None}
 use Rattle.line_keys.specs.Item.{Item}
 use Rattle.line_parts.specs.Environment.{Environment}
@@ -19,7 +19,7 @@ RunLeavesNone (runs.goes_on turn run) = (left_by turn.read.command ≡ None) × 
 RunLeavesNone (runs.ends turn stops) = Unit {0}
 RunLeavesNone (runs.runs_dry begins cut) = Unit {0}
 
--- the steps of a session are turns alone, and none of their commands is one of those that are left to the program
+-- the steps of a line are turns alone, and none of their commands is one of those that are left to the program
 abbrev pub StepsLeaveNone : {by : Rules} {over_calls : Bool} {start found : Standing} → Steps by over_calls start found → Type 0
 StepsLeaveNone steps.none = Unit {0}
 StepsLeaveNone (steps.turn before turn) = StepsLeaveNone before × (left_by turn.read.command ≡ None)
@@ -35,15 +35,16 @@ abbrev pub RunsPlainly : Rules → Standing → Editor → Input → End → Typ
 RunsPlainly by start last input end =
     (run : Run by.keymap by.ruler by.environment start.editor start.input start.items last input end) × RunLeavesNone run
 
--- a session comes from a start to this end, with nothing left to the program: its last turn does not proceed, or more items are awaited
-abbrev pub SessionPlainly : Rules → Standing → Editor → Input → End → Type 0
-SessionPlainly by start last input (stopped answer rest) =
-    (answer ≢ proceeds) × ((ended : Ends by false start (reading_commands last input rest) answer) × StepsLeaveNone ended.steps)
-SessionPlainly by start last input (dry items) =
+-- a line comes from a start to this end, in a call or over several, with nothing left to the program: its last turn does not proceed, or
+-- more items are awaited
+abbrev pub SessionPlainly : Rules → Bool → Standing → Editor → Input → End → Type 0
+SessionPlainly by over_calls start last input (stopped answer rest) =
+    (answer ≢ proceeds) × ((ended : Ends by over_calls start (reading_commands last input rest) answer) × StepsLeaveNone ended.steps)
+SessionPlainly by over_calls start last input (dry items) =
     (waits : Waits by start (reading_commands last input items)) × StepsLeaveNone waits.steps
 
--- from where commands are read, and with none of those among them that are left to the program, a session is a run of the abstract editor:
--- the one has this end just where the other has it
+-- from where commands are read, and with none of those among them that are left to the program, what a line comes to, in a call or over
+-- several, is a run of the abstract editor: the one has this end just where the other has it
 abbrev pub SessionIsRun : Type 0
-SessionIsRun = (by : Rules) (start : Standing) (last : Editor) (input : Input) (end : End) → start.mode ≡ Editing
-    → RunsPlainly by start last input end ↔ SessionPlainly by start last input end
+SessionIsRun = (by : Rules) (over_calls : Bool) (start : Standing) (last : Editor) (input : Input) (end : End) → start.mode ≡ Editing
+    → RunsPlainly by start last input end ↔ SessionPlainly by over_calls start last input end

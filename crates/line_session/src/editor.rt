@@ -7,9 +7,10 @@ ghost use Rattle.line_parts.specs.History.{TellsTaken, added};
 ghost use Rattle.line_session.specs.Kept.{answers_of};
 ghost use Rattle.line_session.specs.OnTerminal.{ShowsBegun};
 ghost use Rattle.line_session.specs.Reading.{BindingsLookAtNoHint, HearsOnce, ReadsLine, answer_of};
+ghost use Rattle.line_session.specs.Heard.{AddsItems, BeginsReading, Feeds, turn_of};
 ghost use Rattle.line_session.specs.Sitting.{BeginsOrStays, BegunLine, Came, CameBegun, EndsAs, Keeps, LosesNothing, StartsWith, StaysOrDraws, drawn_anew, suspends, with_turn, written_so_far};
 ghost use Rattle.line_buffer.specs.KillRing.{empty_ring};
-ghost use Rattle.line_term.specs.Decoder.{finished, flushed, fresh, is_waiting, read};
+ghost use Rattle.line_term.specs.Decoder.{Gives, finished, flushed, fresh, is_waiting, read};
 
 use crate::begun::{Begun, add, begin, copied_prompt, draw_anew, line_of};
 use line_buffer::{KillRing, Unit};
@@ -43,6 +44,17 @@ pub enum Fed {
     Ended,
     /// The person interrupted.
     Interrupted,
+}
+
+/// What is heard of the terminal.
+#[derive(Clone, Copy)]
+pub enum Heard<'t> {
+    /// These bytes have arrived.
+    Bytes(&'t [u8]),
+    /// None have arrived for a moment.
+    Pause,
+    /// No more arrive at all.
+    End,
 }
 
 /// An editor that reads lines from a terminal, and draws them by writing to `O`.
@@ -322,17 +334,10 @@ impl<O: Write + Drop, H: Helper + Drop, S: History + Drop> Editor<O, H, S> {
         initial: (&str, &str),
         bindings: &Bindings<C>,
     ) -> Result<Fed>
-        ensures came { let g = C.ConditionalEventHandler in
-            IfOk result (CameBegun (answers_of H.hint_at H.verdict_at H.lights H.Completer)
+        ensures { let g = C.ConditionalEventHandler in
+            BeginsReading (answers_of H.hint_at H.verdict_at H.lights H.Completer)
             (bound_of g bindings.now) (P.raw_text prompt.now)
-            initial.entry.0.now initial.entry.1.now self.old self.new) }
-        ensures keeps { OnOk result
-            (Keeps (answers_of H.hint_at H.verdict_at H.lights H.Completer)
-            (record self.old { prompt = P.raw_text prompt.now }) self.new) }
-        ensures left { OnErr result
-            (BeginsOrStays (answers_of H.hint_at H.verdict_at H.lights H.Completer)
-            (P.raw_text prompt.now) initial.entry.0.now initial.entry.1.now self.old self.new) }
-        ensures faults { FaultsOnly result }
+            initial.entry.0.now initial.entry.1.now self.old self.new result }
     {
         self.start(prompt, initial)?;
         self.take_turns(bindings)
@@ -347,16 +352,9 @@ impl<O: Write + Drop, H: Helper + Drop, S: History + Drop> Editor<O, H, S> {
         prompt: &P,
         bindings: &Bindings<C>,
     ) -> Result<Fed>
-        ensures came { let g = C.ConditionalEventHandler in
-            IfOk result (CameBegun (answers_of H.hint_at H.verdict_at H.lights H.Completer)
-            (bound_of g bindings.now) (P.raw_text prompt.now) [] [] self.old self.new) }
-        ensures keeps { OnOk result
-            (Keeps (answers_of H.hint_at H.verdict_at H.lights H.Completer)
-            (record self.old { prompt = P.raw_text prompt.now }) self.new) }
-        ensures left { OnErr result
-            (BeginsOrStays (answers_of H.hint_at H.verdict_at H.lights H.Completer)
-            (P.raw_text prompt.now) [] [] self.old self.new) }
-        ensures faults { FaultsOnly result }
+        ensures { let g = C.ConditionalEventHandler in
+            BeginsReading (answers_of H.hint_at H.verdict_at H.lights H.Completer)
+            (bound_of g bindings.now) (P.raw_text prompt.now) [] [] self.old self.new result }
     {
         self.begin_with(prompt, ("", ""), bindings)
     }
@@ -371,20 +369,11 @@ impl<O: Write + Drop, H: Helper + Drop, S: History + Drop> Editor<O, H, S> {
         bytes: &[u8],
         bindings: &Bindings<C>,
     ) -> Result<Fed>
-        ensures came { (begun : BegunLine) → self.old.line ≡ Some begun →
-            let g = C.ConditionalEventHandler in
-            IfOk result (Came (answers_of H.hint_at H.verdict_at H.lights H.Completer)
-            (bound_of g bindings.now)
-            (with_turn (read self.old.decoder bytes.now) self.old) begun self.new) }
-        ensures keeps { OnOk result (Keeps (answers_of H.hint_at H.verdict_at H.lights H.Completer)
-            (with_turn (read self.old.decoder bytes.now) self.old) self.new) }
-        ensures idle { self.old.line ≡ None → IfOk result (λ fed. (fed ≡ Fed.More)
-            × (self.new ≡ with_turn (read self.old.decoder bytes.now) self.old)) }
-        ensures left { OnErr result (LosesNothing self.old self.new) }
-        ensures faults { FaultsOnly result }
+        ensures { let g = C.ConditionalEventHandler in
+            Feeds (answers_of H.hint_at H.verdict_at H.lights H.Completer)
+            (bound_of g bindings.now) (read self.old.decoder bytes.now) self.old self.new result }
     {
-        self.read(bytes)?;
-        self.take_turns(bindings)
+        self.hear(Heard::Bytes(bytes), bindings)
     }
 
     /// Settles what bytes have begun, as none have come for a moment: a lone Esc is the Esc key then, and of a pasted text what has come is
@@ -393,20 +382,11 @@ impl<O: Write + Drop, H: Helper + Drop, S: History + Drop> Editor<O, H, S> {
     /// # Errors
     /// Those of `feed`.
     pub fn flush<C: ConditionalEventHandler>(&mut self, bindings: &Bindings<C>) -> Result<Fed>
-        ensures came { (begun : BegunLine) → self.old.line ≡ Some begun →
-            let g = C.ConditionalEventHandler in
-            IfOk result (Came (answers_of H.hint_at H.verdict_at H.lights H.Completer)
-            (bound_of g bindings.now)
-            (with_turn (flushed self.old.decoder) self.old) begun self.new) }
-        ensures keeps { OnOk result (Keeps (answers_of H.hint_at H.verdict_at H.lights H.Completer)
-            (with_turn (flushed self.old.decoder) self.old) self.new) }
-        ensures idle { self.old.line ≡ None → IfOk result (λ fed. (fed ≡ Fed.More)
-            × (self.new ≡ with_turn (flushed self.old.decoder) self.old)) }
-        ensures left { OnErr result (LosesNothing self.old self.new) }
-        ensures faults { FaultsOnly result }
+        ensures { let g = C.ConditionalEventHandler in
+            Feeds (answers_of H.hint_at H.verdict_at H.lights H.Completer)
+            (bound_of g bindings.now) (flushed self.old.decoder) self.old self.new result }
     {
-        self.read_pause()?;
-        self.take_turns(bindings)
+        self.hear(Heard::Pause, bindings)
     }
 
     /// Settles what bytes have begun, as no more come at all.
@@ -414,19 +394,28 @@ impl<O: Write + Drop, H: Helper + Drop, S: History + Drop> Editor<O, H, S> {
     /// # Errors
     /// Those of `feed`.
     pub fn finish<C: ConditionalEventHandler>(&mut self, bindings: &Bindings<C>) -> Result<Fed>
-        ensures came { (begun : BegunLine) → self.old.line ≡ Some begun →
-            let g = C.ConditionalEventHandler in
-            IfOk result (Came (answers_of H.hint_at H.verdict_at H.lights H.Completer)
-            (bound_of g bindings.now)
-            (with_turn (finished self.old.decoder) self.old) begun self.new) }
-        ensures keeps { OnOk result (Keeps (answers_of H.hint_at H.verdict_at H.lights H.Completer)
-            (with_turn (finished self.old.decoder) self.old) self.new) }
-        ensures idle { self.old.line ≡ None → IfOk result (λ fed. (fed ≡ Fed.More)
-            × (self.new ≡ with_turn (finished self.old.decoder) self.old)) }
-        ensures left { OnErr result (LosesNothing self.old self.new) }
-        ensures faults { FaultsOnly result }
+        ensures { let g = C.ConditionalEventHandler in
+            Feeds (answers_of H.hint_at H.verdict_at H.lights H.Completer)
+            (bound_of g bindings.now) (finished self.old.decoder) self.old self.new result }
     {
-        self.read_end()?;
+        self.hear(Heard::End, bindings)
+    }
+
+    /// Does what `feed`, `flush` or `finish` does, by what is heard.
+    ///
+    /// # Errors
+    /// Those of `feed`.
+    pub fn hear<C: ConditionalEventHandler>(
+        &mut self,
+        heard: Heard<'_>,
+        bindings: &Bindings<C>,
+    ) -> Result<Fed>
+        ensures { let g = C.ConditionalEventHandler in
+            Feeds (answers_of H.hint_at H.verdict_at H.lights H.Completer)
+            (bound_of g bindings.now) (turn_of heard.entry self.old.decoder)
+            self.old self.new result }
+    {
+        self.read(heard)?;
         self.take_turns(bindings)
     }
 
@@ -528,7 +517,7 @@ impl<O: Write + Drop, H: Helper + Drop, S: History + Drop> Editor<O, H, S> {
             if !self.awaits_more(&fed, goes_on) {
                 return self.answered(fed);
             }
-            (fed, goes_on) = self.hear(input, goes_on, pauses, &mut buffer, bindings)?;
+            (fed, goes_on) = self.read_on(input, goes_on, pauses, &mut buffer, bindings)?;
         }
         Err(io::Error::from(io::ErrorKind::Other).into())
     }
@@ -571,7 +560,7 @@ impl<O: Write + Drop, H: Helper + Drop, S: History + Drop> Editor<O, H, S> {
     ///
     /// # Errors
     /// `Io`, where the input, the output, the helper or the history fails, and `Memory`.
-    fn hear<R: Read, C: ConditionalEventHandler>(
+    fn read_on<R: Read, C: ConditionalEventHandler>(
         &mut self,
         input: &mut R,
         goes_on: bool,
@@ -664,32 +653,14 @@ impl<O: Write + Drop, H: Helper + Drop, S: History + Drop> Editor<O, H, S> {
         asked
     }
 
-    /// Appends the items of bytes to those that are left.
-    fn read(&mut self, bytes: &[u8]) -> Result<()>
+    /// Appends the items of what is heard to those that are left.
+    fn read(&mut self, heard: Heard<'_>) -> Result<()>
         ensures reads { OnOk result
-            (self.new ≡ with_turn (read self.old.decoder bytes.now) self.old) }
+            (self.new ≡ with_turn (turn_of heard.entry self.old.decoder) self.old) }
         ensures left { OnErr result (LosesNothing self.old self.new) }
         ensures faults { FaultsOnly result }
     {
-        self.decoder.feed(bytes, &mut self.keys)
-    }
-
-    /// Appends the items of a pause to those that are left.
-    fn read_pause(&mut self) -> Result<()>
-        ensures reads { OnOk result (self.new ≡ with_turn (flushed self.old.decoder) self.old) }
-        ensures left { OnErr result (LosesNothing self.old self.new) }
-        ensures faults { FaultsOnly result }
-    {
-        self.decoder.flush(&mut self.keys)
-    }
-
-    /// Appends the items of the end of all bytes to those that are left.
-    fn read_end(&mut self) -> Result<()>
-        ensures reads { OnOk result (self.new ≡ with_turn (finished self.old.decoder) self.old) }
-        ensures left { OnErr result (LosesNothing self.old self.new) }
-        ensures faults { FaultsOnly result }
-    {
-        self.decoder.finish(&mut self.keys)
+        decode(heard, &mut self.decoder, &mut self.keys)
     }
 
     /// Takes turns of the line that has begun, if one has.
@@ -775,6 +746,20 @@ impl<O: Write + Drop, H: Helper + Drop, S: History + Drop> Editor<O, H, S> {
         )?;
         self.line = None;
         Ok(Fed::Submitted(text))
+    }
+}
+
+/// Appends the items of what is heard to a queue.
+fn decode(heard: Heard<'_>, decoder: &mut Decoder, keys: &mut KeyQueue) -> Result<()>
+    ensures gives { OnOk result
+        (Gives (turn_of heard.entry decoder.old) decoder.new keys.old keys.new) }
+    ensures left { OnErr result (AddsItems keys.old keys.new) }
+    ensures memory { MemoryOnly result }
+{
+    match heard {
+        Heard::Bytes(bytes) => decoder.feed(bytes, keys),
+        Heard::Pause => decoder.flush(keys),
+        Heard::End => decoder.finish(keys),
     }
 }
 

@@ -4,6 +4,7 @@ ghost use Rattle.line_config.specs.Error.{FaultsOnly, MemoryOnly};
 ghost use Rattle.line_editor.specs.Completing.{ComesIn, IsOffered, taken_back_once};
 ghost use Rattle.line_editor.specs.Editor.{edited_of, with_edited};
 ghost use Rattle.line_editor.specs.HistoryMoves.{entry_grows, entry_put, returned_to};
+ghost use Rattle.line_keys.specs.Display.{corner};
 ghost use Rattle.line_keys.specs.Drawing.{DrewNothing, Paints, Undrawn};
 ghost use Rattle.line_parts.specs.Candidate.{BeginsIn, offer_of};
 ghost use Rattle.line_parts.specs.History.{Finds, search_in};
@@ -114,13 +115,16 @@ pub(crate) trait Modal: Refresher {
 
     /// Returns how many columns the screen has.
     fn columns(&self) -> usize
-        ensures { 0 < result };
+        ensures value { result ≡ (Self.display self.now).surface.columns }
+        ensures positive { 0 < result };
 
     /// Returns how many rows the screen has.
-    fn rows(&self) -> usize;
+    fn rows(&self) -> usize
+        ensures { result ≡ (Self.display self.now).surface.rows };
 
     /// Returns where a text ends that begins at the screen's first position.
-    fn end_of(&self, text: &str) -> Position;
+    fn end_of(&self, text: &str) -> Position
+        ensures { result ≡ (Self.display self.now).surface.measure text.now corner };
 }
 
 /// The line of a session.

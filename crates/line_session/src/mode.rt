@@ -1,5 +1,5 @@
 //! What the items of a line are read as.
-ghost use Rattle.std.specs.Prelude.{◌≡◌};
+ghost use Rattle.std.specs.Prelude.{◌≡◌, ◌≢◌, None, IfSome};
 ghost use Rattle.line_keys.specs.Command.{command_of};
 ghost use Rattle.line_session.specs.Steps.{as_it_is, character_of, is_suspended, plain_character, shows_line, reads_no_command, once_resized, with_control};
 ghost use Rattle.line_session.specs.Taken.{item_of};
@@ -10,6 +10,7 @@ use crate::searching::Searching;
 use line_keys::cmd::Cmd;
 use line_keys::keys::{KeyCode, KeyEvent, Modifiers};
 use line_parts::completion::Pair;
+use std::mem;
 
 /// What the items of a line are read as.
 #[derive(Drop)]
@@ -57,6 +58,26 @@ impl Mode {
             Mode::Listing(_) | Mode::Suspended => true,
             Mode::Editing | Mode::Quoting | Mode::Completing(_) => false,
             Mode::Offering(_) | Mode::Searching(_) => false,
+        }
+    }
+
+    /// Takes the search out that is under way, if one is: commands are read then.
+    pub(crate) fn take_search(&mut self) -> Option<Searching>
+        ensures some { IfSome result (λ searching. (self.old ≡ Mode.Searching searching)
+            × (self.new ≡ Mode.Editing)) }
+        ensures none { result ≡ None → (self.new ≡ self.old)
+            × ((searching : _) → self.old ≢ Mode.Searching searching) }
+    {
+        match self {
+            Mode::Searching(_) => {}
+            _ => return None,
+        }
+        match mem::replace(self, Mode::Editing) {
+            Mode::Searching(searching) => Some(searching),
+            other => {
+                *self = other;
+                None
+            }
         }
     }
 

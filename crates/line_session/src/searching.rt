@@ -6,7 +6,7 @@ ghost use Rattle.line_keys.specs.Draft.{hinted};
 ghost use Rattle.line_keys.specs.Drawing.{Undrawn};
 ghost use Rattle.line_keys.specs.Frame.{Frame};
 ghost use Rattle.line_parts.specs.History.{search_in};
-ghost use Rattle.line_session.specs.Searching.{Searches, BeginsSearch, IsShownBehind, ShowsSearch, aim_of, aim_put, aimed, before_search, grown_by, next_start, search_cmd, search_of, search_prompt};
+ghost use Rattle.line_session.specs.Searching.{Searches, BeginsSearch, IsShownBehind, ShowsSearch, before_search, extended, gone_on, grown_by, led_to, next_place, next_start, place_put, search_cmd, search_of, search_prompt, shortened};
 ghost use Rattle.line_session.specs.Taken.{IsShown, IsShownIn};
 
 use crate::modal::Modal;
@@ -19,25 +19,25 @@ use line_keys::refresher::Refresher;
 use line_parts::history::SearchDirection;
 use std::alloc::Global;
 
-/// Where a search stands with a term.
-#[derive(Drop)]
-pub struct Sought {
-    /// The term.
-    pub term: String,
-    /// The index of the history's line at which the search stands.
+/// Where a search stands.
+#[derive(Clone, Copy)]
+pub struct Place {
+    /// The index of the history's line.
     pub index: usize,
     /// Where the term begins that was found in that line, a byte offset; None where none was found yet.
     pub pos: Option<usize>,
-    /// Whether the last search for the term failed: what was found for a shorter one is shown then.
+    /// Whether the last search for the term failed: what was found before is shown then.
     pub failed: bool,
 }
 
 /// A search that is under way.
 pub struct Searching {
+    /// The term.
+    pub term: String,
     /// Where it stands.
-    pub now: Sought,
+    pub place: Place,
     /// Where it stood with each shorter term, from the empty one on.
-    pub shorter: Vec<Sought>,
+    pub shorter: Vec<Place>,
     /// Its direction.
     pub direction: SearchDirection,
     /// The cursor from before, a byte offset of the line from before.
@@ -51,7 +51,8 @@ pub struct Searching {
 impl Drop for Searching {
     fn drop(self) {
         let Searching {
-            now: _,
+            term: _,
+            place: _,
             shorter: _,
             direction: _,
             pos: _,
@@ -111,14 +112,13 @@ pub(crate) fn search<E: Modal>(
         state.beep()?;
         return Ok(Mode::Editing);
     }
-    let now = Sought {
-        term: String::new(alloc),
-        index: count - 1,
-        pos: None,
-        failed: false,
-    };
     let searching = Searching {
-        now,
+        term: String::new(alloc),
+        place: Place {
+            index: count - 1,
+            pos: None,
+            failed: false,
+        },
         shorter: Vec::new(alloc),
         direction,
         pos: state.pos(),
@@ -135,7 +135,7 @@ impl Searching {
     /// # Errors
     /// Those of the history, the helper and the output: `Io` and `Memory`. The line is then as it was, the one from before the
     /// search, or the one that was found.
-    pub(crate) fn take<E: Modal>(self, command: SearchCmd, state: &mut E) -> Result<Mode>
+    pub(crate) fn take<E: Modal>(mut self, command: SearchCmd, state: &mut E) -> Result<Mode>
         ensures takes { IfOk result (Searches (E.environment state.old) (search_of self) command
             (E.draft state.old) (E.draft state.new)) }
         ensures shown { IfOk result (λ mode. IsShownIn E.EditorState mode state.new) }
@@ -143,108 +143,94 @@ impl Searching {
         ensures faults { FaultsOnly result }
     {
         match command {
-            SearchCmd::Extend(c) => self.extend(c, state),
-            SearchCmd::Shorten => self.shorten(state),
-            SearchCmd::GoOn(direction) => self.go_on(direction, state),
             SearchCmd::GiveUp => self.give_up(state),
+            other => {
+                self.lead(other, state)?;
+                self.show(state)
+            }
         }
     }
-}
 
-impl Searching {
-    // The term gets a character: the search goes on from the line where it stands, that line included.
-    fn extend<E: Modal>(self, c: char, state: &mut E) -> Result<Mode>
-        ensures takes { IfOk result (Searches (E.environment state.old) (search_of self)
-            (SearchCmd.Extend c) (E.draft state.old) (E.draft state.new)) }
-        ensures shown { IfOk result (λ mode. IsShownIn E.EditorState mode state.new) }
-        ensures frame { Frame E.EditorState state.old state.new }
+    // Leads the search to where a command says, unless that gives it up.
+    fn lead<E: Modal>(&mut self, command: SearchCmd, state: &E) -> Result<()>
+        ensures led { OnOk result (search_of self.new
+            ≡ led_to (E.environment state.now) command (search_of self.old)) }
         ensures faults { FaultsOnly result }
     {
-        let alloc = *self.shorter.allocator();
-        let Searching {
-            now: before,
-            mut shorter,
-            direction,
-            pos,
-            index,
-            grown,
-        } = self;
-        let mut term = String::from_str(alloc, before.term.as_str())?;
-        term.push(c)?;
-        let now = seek(term, Some(before.index), direction, &before, state)?;
-        shorter.push(before)?;
-        let next = Searching {
-            now,
-            shorter,
-            direction,
-            pos,
-            index,
-            grown,
-        };
-        let mode = next.show(alloc, state)?;
-        Ok(mode)
+        match command {
+            SearchCmd::Extend(c) => self.extend(c, state),
+            SearchCmd::Shorten => {
+                self.shorten();
+                Ok(())
+            }
+            SearchCmd::GoOn(direction) => self.go_on(direction, state),
+            SearchCmd::GiveUp => Ok(()),
+        }
+    }
+
+    // The term gets a character: the search goes on from the line where it stands, that line included.
+    fn extend<E: Modal>(&mut self, c: char, state: &E) -> Result<()>
+        ensures extended { OnOk result (search_of self.new
+            ≡ extended (E.environment state.now) c (search_of self.old)) }
+        ensures faults { FaultsOnly result }
+    {
+        let before = self.place;
+        self.term.push(c)?;
+        self.shorter.push(before)?;
+        self.place = self.seek(Some(before.index), self.direction, state)?;
+        Ok(())
     }
 
     // The term loses its last character: the search stands where it stood with the shorter one. The empty term stays.
-    fn shorten<E: Modal>(self, state: &mut E) -> Result<Mode>
-        ensures takes { IfOk result (Searches (E.environment state.old) (search_of self)
-            SearchCmd.Shorten (E.draft state.old) (E.draft state.new)) }
-        ensures shown { IfOk result (λ mode. IsShownIn E.EditorState mode state.new) }
-        ensures frame { Frame E.EditorState state.old state.new }
-        ensures faults { FaultsOnly result }
+    fn shorten(&mut self)
+        ensures { search_of self.new ≡ shortened (search_of self.old) }
     {
-        let alloc = *self.shorter.allocator();
-        let Searching {
-            now,
-            mut shorter,
-            direction,
-            pos,
-            index,
-            grown,
-        } = self;
-        let now = shorter.pop().unwrap_or(now);
-        let next = Searching {
-            now,
-            shorter,
-            direction,
-            pos,
-            index,
-            grown,
-        };
-        let mode = next.show(alloc, state)?;
-        Ok(mode)
+        if let Some(place) = self.shorter.pop() {
+            self.term.pop();
+            self.place = place;
+        }
     }
 
     // The search goes on in a direction, from the line beside the one where it stands.
-    fn go_on<E: Modal>(self, direction: SearchDirection, state: &mut E) -> Result<Mode>
-        ensures goes { IfOk result (Searches (E.environment state.old) (search_of self)
-            (SearchCmd.GoOn direction) (E.draft state.old) (E.draft state.new)) }
-        ensures shown { IfOk result (λ mode. IsShownIn E.EditorState mode state.new) }
-        ensures frame { Frame E.EditorState state.old state.new }
+    fn go_on<E: Modal>(&mut self, direction: SearchDirection, state: &E) -> Result<()>
+        ensures goes { OnOk result (search_of self.new
+            ≡ gone_on (E.environment state.now) direction (search_of self.old)) }
         ensures faults { FaultsOnly result }
     {
-        let alloc = *self.shorter.allocator();
-        let Searching {
-            now: before,
-            shorter,
-            direction: _,
-            pos,
-            index,
-            grown,
-        } = self;
-        let term = String::from_str(alloc, before.term.as_str())?;
-        let start = next_start(direction, state.history_len(), before.index);
-        let now = seek(term, start, direction, &before, state)?;
-        let next = Searching {
-            now,
-            shorter,
-            direction,
-            pos,
-            index,
-            grown,
+        let start = next_start(direction, state.history_len(), self.place.index);
+        self.place = self.seek(start, direction, state)?;
+        self.direction = direction;
+        Ok(())
+    }
+
+    // Returns where the search stands once it goes on from a line, that line included: where it finds its term, there, and else where
+    // it stood before.
+    fn seek<E: Modal>(
+        &self,
+        start: Option<usize>,
+        direction: SearchDirection,
+        state: &E,
+    ) -> Result<Place>
+        ensures seeks { let term = string_bytes self.now.term in
+            IfOk result (λ place. place ≡ next_place self.now.place (option_and_then
+            (λ start. search_in (E.environment state.now).lines term start direction) start)) }
+        ensures faults { FaultsOnly result }
+    {
+        let failed = Place {
+            failed: true,
+            ..self.place
         };
-        let mode = next.show(alloc, state)?;
-        Ok(mode)
+        let Some(start) = start else {
+            return Ok(failed);
+        };
+        let Some(found) = state.search_history(self.term.as_str(), start, direction)? else {
+            return Ok(failed);
+        };
+        Ok(Place {
+            index: found.idx,
+            pos: Some(found.pos),
+            failed: false,
+        })
     }
 
     // Gives up the search: shows the line from before, with its cursor, as the line of the history that it was.
@@ -261,7 +247,7 @@ impl Searching {
     }
 
     // Shows the line that was found, or the one from before, after the prompt of the search.
-    fn show<E: Modal>(self, alloc: Global, state: &mut E) -> Result<Mode>
+    fn show<E: Modal>(mut self, state: &mut E) -> Result<Mode>
         ensures shows { IfOk result (ShowsSearch (E.environment state.old) (search_of self)
             (before_search (E.environment state.old) (search_of self) (E.draft state.old))
             (E.draft state.new)) }
@@ -269,32 +255,17 @@ impl Searching {
         ensures frame { Frame E.EditorState state.old state.new }
         ensures faults { FaultsOnly result }
     {
+        let alloc = *self.shorter.allocator();
         self.take_back(state)?;
-        let Searching {
-            now,
-            shorter,
-            direction,
-            pos,
-            index,
-            grown: _,
-        } = self;
-        let grown = now.put(state)?;
-        let next = Searching {
-            now,
-            shorter,
-            direction,
-            pos,
-            index,
-            grown,
-        };
-        next.draw(alloc, state)?;
-        Ok(Mode::Searching(next))
+        self.grown = self.place.put(state)?;
+        self.draw(alloc, state)?;
+        Ok(Mode::Searching(self))
     }
 
     // Puts the line from before in place of the one that is shown, with its cursor, as the line of the history that it was.
     fn take_back<E: Modal>(&self, state: &mut E) -> Result<()>
-        ensures draft { OnOk result (E.draft state.new ≡ before_search (E.environment state.old)
-            (search_of self.entry.now) (E.draft state.old)) }
+        ensures draft { OnOk result (E.draft state.new
+            ≡ before_search (E.environment state.old) (search_of self.now) (E.draft state.old)) }
         ensures still { Undrawn E.EditorState state.old state.new }
         ensures memory { MemoryOnly result }
     {
@@ -312,40 +283,23 @@ impl Searching {
     pub(crate) fn draw<E: Modal>(&self, alloc: Global, state: &mut E) -> Result<()>
         ensures draft { OnOk result (E.draft state.new ≡ hinted (E.environment state.old)
             (E.draft state.old)) }
-        ensures drawn { OnOk result (IsShownBehind (search_prompt (aim_of self.entry.now.now))
+        ensures drawn { OnOk result (IsShownBehind (search_prompt (search_of self.now))
             (E.display state.new) (E.draft state.new)) }
         ensures frame { Frame E.EditorState state.old state.new }
         ensures faults { FaultsOnly result }
     {
-        let prompt = self.now.prompt(alloc)?;
+        let prompt = self.prompt(alloc)?;
         state.refresh_prompt_and_line(prompt.as_str())
-    }
-}
-
-impl Sought {
-    // Puts the line that was found in the line's place, with the cursor where the term begins. Returns whether the changes have
-    // grown by it.
-    fn put<E: Modal>(&self, state: &mut E) -> Result<bool>
-        ensures draft { OnOk result (E.draft state.new ≡ aim_put (E.environment state.old)
-            (aim_of self.now) (E.draft state.old)) }
-        ensures grown { IfOk result (λ grown. grown ≡ grown_by (E.environment state.old)
-            (aim_of self.now) (E.draft state.old)) }
-        ensures still { Undrawn E.EditorState state.old state.new }
-        ensures faults { FaultsOnly result }
-    {
-        match self.pos {
-            Some(pos) => state.put_entry(pos, self.index),
-            None => Ok(false),
-        }
     }
 
     // Returns the prompt of the search.
     fn prompt(&self, alloc: Global) -> Result<String>
-        ensures text { IfOk result (λ text. string_bytes text ≡ search_prompt (aim_of self.now)) }
+        ensures text { IfOk result (λ text.
+            string_bytes text ≡ search_prompt (search_of self.now)) }
         ensures memory { MemoryOnly result }
     {
         let mut prompt = String::new(alloc);
-        prompt.push_str(if self.failed {
+        prompt.push_str(if self.place.failed {
             "(failed reverse-i-search)`"
         } else {
             "(reverse-i-search)`"
@@ -356,44 +310,21 @@ impl Sought {
     }
 }
 
-// Returns where a search for a term stands that goes on from a line, that line included: where it finds one, there, and else where
-// it stood before.
-fn seek<E: Modal>(
-    term: String,
-    start: Option<usize>,
-    direction: SearchDirection,
-    before: &Sought,
-    state: &E,
-) -> Result<Sought>
-    ensures seeks { IfOk result (λ now. aim_of now ≡ aimed (string_bytes term) (aim_of before.now)
-        (option_and_then (λ start. search_in (E.environment state.now).lines (string_bytes term)
-        start direction) start)) }
-    ensures faults { FaultsOnly result }
-{
-    let Some(start) = start else {
-        return Ok(failed(term, before));
-    };
-    let Some(found) = state.search_history(term.as_str(), start, direction)? else {
-        return Ok(failed(term, before));
-    };
-    let (index, pos) = (found.idx, found.pos);
-    Ok(Sought {
-        term,
-        index,
-        pos: Some(pos),
-        failed: false,
-    })
-}
-
-// Returns where a search for a term stands that failed: where it stood before.
-fn failed(term: String, before: &Sought) -> Sought
-    ensures { aim_of result ≡ aimed (string_bytes term) (aim_of before.now) None }
-{
-    Sought {
-        term,
-        index: before.index,
-        pos: before.pos,
-        failed: true,
+impl Place {
+    // Puts the line that was found in the line's place, with the cursor where the term begins. Returns whether the changes have
+    // grown by it.
+    fn put<E: Modal>(self, state: &mut E) -> Result<bool>
+        ensures draft { OnOk result (E.draft state.new
+            ≡ place_put (E.environment state.old) self (E.draft state.old)) }
+        ensures grown { IfOk result (λ grown.
+            grown ≡ grown_by (E.environment state.old) self (E.draft state.old)) }
+        ensures still { Undrawn E.EditorState state.old state.new }
+        ensures faults { FaultsOnly result }
+    {
+        match self.pos {
+            Some(pos) => state.put_entry(pos, self.index),
+            None => Ok(false),
+        }
     }
 }
 

@@ -11,7 +11,10 @@ ghost use Rattle.line_keys.specs.Draft.{hinted};
 ghost use Rattle.line_keys.specs.Frame.{Frame};
 ghost use Rattle.line_keys.specs.Item.{Item};
 ghost use Rattle.line_session.specs.Searching.{search_cmd, search_of};
-ghost use Rattle.line_session.specs.Steps.{Answers, DoesInSearch, comes_in, shows_line, reads_no_command};
+ghost use Rattle.line_buffer.specs.KillRing.{Ring};
+ghost use Rattle.line_editor.specs.Input.{Input};
+ghost use Rattle.line_session.specs.Sitting.{standing_with};
+ghost use Rattle.line_session.specs.Steps.{Answers, DoesInSearch, comes_in, shows_line, reads_no_command, starting};
 ghost use Rattle.line_session.specs.Taken.{ComesTo, DrawnBehind, DrawnOnce, IsShown, IsShownIn, IsShownWith, KeepsRules, PutsIn, TakesAsItIs, TakesItem, TakesOne, is_settled, item_of, rules_by, rules_of, standing_of, start_of};
 
 use crate::completing::complete;
@@ -83,16 +86,38 @@ pub(crate) fn take_turns<
     ensures faults { FaultsOnly result }
     ensures ring { kill_ring.new.size ≡ kill_ring.old.size }
 {
+    draw_first(alloc, draws, mode, state)?;
+    let turned = turns(alloc, mode, state, input_state, keys, kill_ring, config);
+    if turned.is_err() {
+        *mode = Mode::Editing;
+    }
+    turned
+}
+
+/// Draws the line, where `draws` says so or a program that was suspended goes on: commands are read then.
+///
+/// # Errors
+/// Those of the helper and of the output: `Io` and `Memory`. The mode is as it was.
+fn draw_first<E: Modal>(alloc: Global, draws: bool, mode: &mut Mode, state: &mut E) -> Result<()>
+    ensures starts { (input : Input) (items : List Item) (kills : Ring) →
+        OnOk result (starting (E.environment state.old) draws
+        (standing_with (E.draft state.old) input mode.old items kills)
+        ≡ standing_with (E.draft state.new) input mode.new items kills) }
+    ensures shown { (items : List Item) →
+        (draws ≡ false → IsShownWith E.EditorState mode.old items state.old)
+        → OnOk result (IsShownWith E.EditorState mode.new items state.new) }
+    ensures frame { Frame E.EditorState state.old state.new }
+    ensures faults { FaultsOnly result }
+{
     if mode.is_suspended() {
         resume(alloc, state)?;
         *mode = Mode::Editing;
-        let turned = turns(alloc, mode, state, input_state, keys, kill_ring, config)?;
-        return Ok(turned);
+        return Ok(());
     }
     if draws {
         draw(alloc, mode, state)?;
     }
-    turns(alloc, mode, state, input_state, keys, kill_ring, config)
+    Ok(())
 }
 
 /// Draws the line of a program that goes on: below what the terminal shows meanwhile.
@@ -127,7 +152,7 @@ fn draw<E: Modal>(alloc: Global, mode: &Mode, state: &mut E) -> Result<()>
     }
 }
 
-/// Takes turns as `take_turns` does, of a line that is shown. After an error commands are read.
+/// Takes turns as `take_turns` does, of a line that is shown.
 fn turns<
     'out,
     'prompt,
@@ -162,23 +187,19 @@ fn turns<
         ⟦<KeyQueue as RawReader>⟧
         (session state.old (k input_state.old) keys.old kill_ring.old)
         (session state.new (k input_state.new) keys.new kill_ring.new) }
-    ensures left { OnErr result (mode.new ≡ Mode.Editing) }
     ensures faults { FaultsOnly result }
     ensures ring { kill_ring.new.size ≡ kill_ring.old.size }
 {
     'turns: loop {
         keys.mark();
-        let was = mem::replace(mode, Mode::Editing);
-        if let Some(item) = next_as_it_is(&was, keys)? {
-            *mode = take_item(was, item, state, input_state, kill_ring, config)?;
+        if let Some(item) = next_as_it_is(mode, keys)? {
+            take_item(mode, item, state, input_state, kill_ring, config)?;
             continue;
         }
-        if was.reads_no_command() {
-            *mode = was;
+        if mode.reads_no_command() {
             return Ok(Turned::NeedsMore);
         }
-        let (turned, next) = turn(alloc, was, state, input_state, keys, kill_ring, config)?;
-        *mode = next;
+        let turned = turn(alloc, mode, state, input_state, keys, kill_ring, config)?;
         match turned {
             Turned::Proceeds => {}
             Turned::NeedsMore => {
@@ -219,7 +240,7 @@ fn next_as_it_is(mode: &Mode, keys: &mut KeyQueue) -> Result<Option<AsItIs>>
     }
 }
 
-/// Takes one turn, of keys that are read as a command. Returns how it ended, and what the next items are read as.
+/// Takes one turn, of keys that are read as a command. Returns how it ended.
 ///
 /// # Errors
 /// Those of `take_turn`, of the helper, the history and the output.
@@ -233,25 +254,25 @@ fn turn<
     C: ConditionalEventHandler,
 >(
     alloc: Global,
-    mode: Mode,
+    mode: &mut Mode,
     state: &mut Line<'out, 'prompt, O, H, P, S>,
     input_state: &mut InputState<'_, C>,
     keys: &mut KeyQueue,
     kill_ring: &mut KillRing,
     config: &Config,
-) -> Result<(Turned, Mode)>
-    requires reads { reads_no_command mode ≡ false }
+) -> Result<Turned>
+    requires reads { reads_no_command mode.old ≡ false }
     requires shown { let e = ⟦<Line<'out, 'prompt, O, H, P, S> as EditorState>⟧ in
-        IsShownWith e mode keys.old.rest state.old }
+        IsShownWith e mode.old keys.old.rest state.old }
     ensures takes { let k = keys_of C.ConditionalEventHandler in
         let e = ⟦<Line<'out, 'prompt, O, H, P, S> as EditorState>⟧ in
         let r = ⟦<KeyQueue as RawReader>⟧ in
-        IfOk result (λ done. TakesOne e r config.now mode
-        (session state.old (k input_state.old) keys.old kill_ring.old) done.0 done.1
+        IfOk result (λ turned. TakesOne e r config.now mode.old
+        (session state.old (k input_state.old) keys.old kill_ring.old) turned mode.new
         (session state.new (k input_state.new) keys.new kill_ring.new)) }
     ensures drawn { let e = ⟦<Line<'out, 'prompt, O, H, P, S> as EditorState>⟧ in
-        IfOk result (λ done. DrawnBehind e keys.old.rest done.1 done.0 state.new) }
-    ensures fewer { IfOk result (λ done. done.0 ≡ Turned.Proceeds
+        IfOk result (λ turned. DrawnBehind e keys.old.rest mode.new turned state.new) }
+    ensures fewer { IfOk result (λ turned. turned ≡ Turned.Proceeds
         → length keys.new.rest < length keys.old.rest) }
     ensures keeps { let k = keys_of C.ConditionalEventHandler in
         KeepsReading ⟦<Line<'out, 'prompt, O, H, P, S> as EditorState>⟧
@@ -260,8 +281,8 @@ fn turn<
     ensures faults { FaultsOnly result }
     ensures ring { kill_ring.new.size ≡ kill_ring.old.size }
 {
-    match mode {
-        Mode::Searching(searching) => search_turn(
+    if let Some(searching) = mode.take_search() {
+        let (turned, next) = search_turn(
             alloc,
             searching,
             state,
@@ -269,9 +290,11 @@ fn turn<
             keys,
             kill_ring,
             config,
-        ),
-        other => edit_turn(alloc, other, state, input_state, keys, kill_ring, config),
+        )?;
+        *mode = next;
+        return Ok(turned);
     }
+    edit_turn(alloc, mode, state, input_state, keys, kill_ring, config)
 }
 
 /// Takes one turn outside of a search: reads a command, executes it, and answers what it left to the program.
@@ -285,26 +308,26 @@ fn edit_turn<
     C: ConditionalEventHandler,
 >(
     alloc: Global,
-    mode: Mode,
+    mode: &mut Mode,
     state: &mut Line<'out, 'prompt, O, H, P, S>,
     input_state: &mut InputState<'_, C>,
     keys: &mut KeyQueue,
     kill_ring: &mut KillRing,
     config: &Config,
-) -> Result<(Turned, Mode)>
-    requires reads { reads_no_command mode ≡ false }
-    requires edits { shows_line mode ≡ true }
+) -> Result<Turned>
+    requires reads { reads_no_command mode.old ≡ false }
+    requires edits { shows_line mode.old ≡ true }
     requires shown { let e = ⟦<Line<'out, 'prompt, O, H, P, S> as EditorState>⟧ in
         IsShown e state.old }
     ensures takes { let k = keys_of C.ConditionalEventHandler in
         let e = ⟦<Line<'out, 'prompt, O, H, P, S> as EditorState>⟧ in
         let r = ⟦<KeyQueue as RawReader>⟧ in
-        IfOk result (λ done. TakesOne e r config.now mode
-        (session state.old (k input_state.old) keys.old kill_ring.old) done.0 done.1
+        IfOk result (λ turned. TakesOne e r config.now mode.old
+        (session state.old (k input_state.old) keys.old kill_ring.old) turned mode.new
         (session state.new (k input_state.new) keys.new kill_ring.new)) }
     ensures drawn { let e = ⟦<Line<'out, 'prompt, O, H, P, S> as EditorState>⟧ in
-        IfOk result (λ done. DrawnBehind e keys.old.rest done.1 done.0 state.new) }
-    ensures fewer { IfOk result (λ done. done.0 ≡ Turned.Proceeds
+        IfOk result (λ turned. DrawnBehind e keys.old.rest mode.new turned state.new) }
+    ensures fewer { IfOk result (λ turned. turned ≡ Turned.Proceeds
         → length keys.new.rest < length keys.old.rest) }
     ensures keeps { let k = keys_of C.ConditionalEventHandler in
         KeepsReading ⟦<Line<'out, 'prompt, O, H, P, S> as EditorState>⟧
@@ -316,11 +339,14 @@ fn edit_turn<
     let (turned, left) = take_turn(state, input_state, keys, kill_ring, config)?;
     match turned {
         Turned::Proceeds => {
-            let next = answer(alloc, left, mode, state, config)?;
-            Ok((Turned::Proceeds, next))
+            answer(alloc, left, mode, state, config)?;
+            Ok(Turned::Proceeds)
         }
-        Turned::NeedsMore => Ok((Turned::NeedsMore, mode)),
-        _ => Ok((turned, Mode::Editing)),
+        Turned::NeedsMore => Ok(Turned::NeedsMore),
+        _ => {
+            *mode = Mode::Editing;
+            Ok(turned)
+        }
     }
 }
 
@@ -417,7 +443,8 @@ fn do_in_search<
     let (turned, left) = do_turn(command, state, input_state, kill_ring, config)?;
     match turned {
         Turned::Proceeds => {
-            let next = answer(alloc, left, Mode::Editing, state, config)?;
+            let mut next = Mode::Editing;
+            answer(alloc, left, &mut next, state, config)?;
             Ok((Turned::Proceeds, next))
         }
         _ => Ok((turned, Mode::Editing)),
@@ -426,27 +453,47 @@ fn do_in_search<
 
 /// Answers what a command left to the program: begins a search or a completion, or goes on with one; beeps where nothing can be
 /// given up; and takes the cursor below the line where the program is asked to suspend itself. Another command ends what had begun.
-/// Returns what the next items are read as.
 ///
 /// # Errors
 /// Those of the helper and of the output: `Io` and `Memory`.
 fn answer<E: Modal>(
     alloc: Global,
     left: Option<Left>,
+    mode: &mut Mode,
+    state: &mut E,
+    config: &Config,
+) -> Result<()>
+    requires { IsShown E.EditorState state.old }
+    ensures answers { OnOk result (Answers config.now (E.environment state.old) left mode.old
+        (E.draft state.old) (E.draft state.new) mode.new) }
+    ensures shown { OnOk result (IsShownIn E.EditorState mode.new state.new) }
+    ensures frame { Frame E.EditorState state.old state.new }
+    ensures faults { FaultsOnly result }
+{
+    let Some(left) = left else {
+        *mode = Mode::Editing;
+        return Ok(());
+    };
+    let was = mem::replace(mode, Mode::Editing);
+    *mode = next_mode(alloc, left, was, state, config)?;
+    Ok(())
+}
+
+/// Does what a command left to the program. Returns what the next items are read as.
+fn next_mode<E: Modal>(
+    alloc: Global,
+    left: Left,
     mode: Mode,
     state: &mut E,
     config: &Config,
 ) -> Result<Mode>
     requires { IsShown E.EditorState state.old }
-    ensures answers { IfOk result (Answers config.now (E.environment state.old) left mode
+    ensures answers { IfOk result (Answers config.now (E.environment state.old) (Some left) mode
         (E.draft state.old) (E.draft state.new)) }
     ensures shown { IfOk result (λ mode. IsShownIn E.EditorState mode state.new) }
     ensures frame { Frame E.EditorState state.old state.new }
     ensures faults { FaultsOnly result }
 {
-    let Some(left) = left else {
-        return Ok(Mode::Editing);
-    };
     match left {
         Left::QuotedInsert => Ok(Mode::Quoting),
         Left::Complete => complete_on(mode, state, config),
@@ -506,7 +553,7 @@ fn suspend<E: Modal>(alloc: Global, state: &mut E) -> Result<Mode>
     Ok(Mode::Suspended)
 }
 
-/// Takes an item by itself: it answers a list, or is put in as it is. Returns what the next items are read as.
+/// Takes an item by itself: it answers a list, or is put in as it is.
 ///
 /// # Errors
 /// Those of `execute`, and those of the output: `Io` and `Memory`.
@@ -519,37 +566,36 @@ fn take_item<
     S: History,
     C: ConditionalEventHandler,
 >(
-    mode: Mode,
+    mode: &mut Mode,
     item: AsItIs,
     state: &mut Line<'out, 'prompt, O, H, P, S>,
     input_state: &InputState<'_, C>,
     kill_ring: &mut KillRing,
     config: &Config,
-) -> Result<Mode>
-    requires taken { comes_in mode (item_of item) ≡ true }
+) -> Result<()>
+    requires taken { comes_in mode.old (item_of item) ≡ true }
     requires shown { let e = ⟦<Line<'out, 'prompt, O, H, P, S> as EditorState>⟧ in
-        shows_line mode ≡ true → IsShown e state.old }
+        shows_line mode.old ≡ true → IsShown e state.old }
     ensures takes { let e = ⟦<Line<'out, 'prompt, O, H, P, S> as EditorState>⟧ in
-        IfOk result (TakesItem e config.now (input_of input_state.now) mode (item_of item)
-        state.old kill_ring.old state.new kill_ring.new) }
+        OnOk result (TakesItem e config.now (input_of input_state.now) mode.old (item_of item)
+        state.old kill_ring.old state.new kill_ring.new mode.new) }
     ensures shown { let e = ⟦<Line<'out, 'prompt, O, H, P, S> as EditorState>⟧ in
-        IfOk result (λ mode. IsShownIn e mode state.new) }
+        OnOk result (IsShownIn e mode.new state.new) }
     ensures frame { let e = ⟦<Line<'out, 'prompt, O, H, P, S> as EditorState>⟧ in
         Frame e state.old state.new }
     ensures faults { FaultsOnly result }
     ensures ring { kill_ring.new.size ≡ kill_ring.old.size }
 {
-    match mode {
-        Mode::Listing(listing) => listing.answer(&item, state),
+    match mem::replace(mode, Mode::Editing) {
+        Mode::Listing(listing) => {
+            *mode = listing.answer(&item, state)?;
+            Ok(())
+        }
         Mode::Searching(_) => {
             state.refresh_line()?;
-            put_in(item, state, input_state, kill_ring, config)?;
-            Ok(Mode::Editing)
+            put_in(item, state, input_state, kill_ring, config)
         }
-        _ => {
-            put_in(item, state, input_state, kill_ring, config)?;
-            Ok(Mode::Editing)
-        }
+        _ => put_in(item, state, input_state, kill_ring, config),
     }
 }
 

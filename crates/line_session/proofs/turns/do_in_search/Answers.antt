@@ -8,7 +8,7 @@ pub returns-in-Proceeds-clause-does : goal.returns-in-Proceeds-clause-does
 returns-in-Proceeds-clause-does g c = λ keymap.
     let done = c.in_ok-turned.ensures.does in
     proceeds_out _ c.args.config.now keymap (search_of c.args.searching) _ _ _ _ _ _ c.answer.new.state _ _ (sym c.by.ensures ∙ c.in_default.is) c.refresh_line.ensures.frame c.in_ok-refresh_line.ensures.draft c.in_ok-refresh_line.ensures.drew
-    _ _ (rw c.in-Proceeds.is at done.tells) done.frame.environment (rw c.in-Proceeds.is at done.comes) c.in_ok-next-in-Proceeds.ensures.answers
+    _ _ (rw c.in-Proceeds.is at done.tells) done.frame.environment (rw c.in-Proceeds.is at done.comes) c.in_ok-answer-in-Proceeds.ensures.answers
 
 pub returns : goal.returns
 returns g c =

@@ -1,22 +1,23 @@
 use Rattle.std.proofs.Common.{ap, ◌∙◌}
-use Rattle.line_host.specs.Heard.{turn_of}
+use Rattle.line_session.specs.Heard.{turn_of}
 use Rattle.line_session.specs.Sitting.{LosesNothing}
 use Rattle.line_host.specs.Bound.{bound}
 use Rattle.line_host.specs.Helped.{answers}
 use Rattle.line_host.specs.Hosted.{Turns}
-use Rattle.line_host.proofs.HostedLemmas.{hears_turns, loses_nothing, not_none, tells_came}
+use Rattle.line_host.proofs.HostedLemmas.{both, not_none, tells_came}
 use Rattle.line_host.proofs.session.Session.hear.Goals as goal
+
+pub tell-requires : goal.tell-requires
+tell-requires c = c.try_hear-fed.ensures.feeds.faults
 
 pub returns : goal.returns
 returns c =
     let session = c.args.self.now in
+    let feeds = c.try_hear-fed.ensures.feeds in
     record {
       no_line = λ none. absurd (not_none _ _ _ _ c.line.ensures c.if-is_none.ensures (ap (λ s. s.editor.line) c.self.view_is ∙ none));
       comes = λ begun line.
           tells_came answers (λ editor. Turns answers (bound session.commands) (turn_of c.args.heard session.editor.decoder) session.editor begun editor) (λ editor. LosesNothing session.editor editor) session
           c.try_hear-fed.new.self c.tell.new.self c.try_hear-fed.result c.tell.result
-          (hears_turns answers (bound session.commands) c.args.heard session.editor c.try_hear-fed.new.self.editor c.try_hear-fed.result c.requires c.try_hear-fed.ensures.hears begun line)
-          c.try_hear-fed.ensures.stays
-          (loses_nothing answers c.args.heard session.editor c.try_hear-fed.new.self.editor c.try_hear-fed.result c.requires c.try_hear-fed.ensures.left)
-          c.tell.ensures;
+          (both _ _ c.try_hear-fed.result (feeds.came begun line) feeds.keeps) c.try_hear-fed.ensures.stays feeds.left c.tell.ensures;
     }

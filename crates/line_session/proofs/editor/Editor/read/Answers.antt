@@ -1,6 +1,6 @@
 use Rattle.std.proofs.Common.{◌≡◌, option_map, refl, subst, string_bytes}
 use Rattle.std.specs.Prelude.{OnOk}
-use Rattle.line_term.specs.Decoder.{read}
+use Rattle.line_session.specs.Heard.{turn_of}
 use Rattle.line_editor.specs.InputState.{remembered_input}
 use Rattle.line_session.specs.Sitting.{Sitting, with_turn}
 use Rattle.line_session.proofs.CameLemmas.{turn_so}
@@ -23,12 +23,12 @@ returns-clause-reads g c =
       columns = c.self.inside.screen.shown.columns;
       rows = c.self.inside.screen.shown.rows;
     } in
-    let mid : Sitting g.row.H.Denot = record old { items = c.feed.new.keys.rest; binds = c.feed.new.keys.binds; decoder = c.feed.new.self } in
-    subst (λ o. OnOk c.feed.result (mid ≡ with_turn (read o.decoder c.args.bytes.now) o)) c.self.view_is
-    (turn_so old mid (read old.decoder c.args.bytes.now) c.feed.new.self c.self.inside.keys c.feed.new.keys c.feed.result c.feed.ensures.fed refl refl refl)
+    let mid : Sitting g.row.H.Denot = record old { items = c.decode.new.keys.rest; binds = c.decode.new.keys.binds; decoder = c.decode.new.decoder } in
+    subst (λ o. OnOk c.decode.result (mid ≡ with_turn (turn_of c.args.heard o.decoder) o)) c.self.view_is
+    (turn_so old mid (turn_of c.args.heard old.decoder) c.decode.new.decoder c.self.inside.keys c.decode.new.keys c.decode.result c.decode.ensures.gives refl refl refl)
 
 pub invariant_of-self : goal.invariant_of-self
 invariant_of-self g c =
     still_fits c.self.inside.line (λ b. b.line) (λ b. b.mode) (λ b. b.draws) _ _ _ _ _ _
-    (either_way c.feed.result _ _ c.feed.ensures.fed c.feed.ensures.cut (λ gives. none_left _ _ _ gives.items) (λ cut. none_left _ _ _ cut.items))
+    (either_way c.decode.result _ _ c.decode.ensures.gives c.decode.ensures.left (λ gives. none_left _ _ _ gives.items) (λ adds. none_left _ _ _ adds.items))
     c.self.invariant
