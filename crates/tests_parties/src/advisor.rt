@@ -82,18 +82,6 @@ impl Advisor {
     }
 }
 
-/// How a line is shown after a kind that was asked.
-fn shown_after(kind: Option<CmdKind>) -> &'static str
-    ensures { result.now ≡ shown_after kind }
-{
-    match kind {
-        None => "unasked",
-        Some(CmdKind::MoveCursor) => "after a move",
-        Some(CmdKind::Other) => "after an edit",
-        Some(CmdKind::ForcedRefresh) => "for the last time",
-    }
-}
-
 impl Completer for Advisor {
     type Candidate = String;
 
@@ -145,7 +133,12 @@ impl Highlighter for Advisor {
     ghost own_line = { λ advisor _ _. Some (shown_after advisor.kinds.0) };
 
     fn highlight<'l>(&self, _alloc: Global, _line: &'l str, _pos: usize) -> Result<CowStr<'l>> {
-        Ok(CowStr::Borrowed(shown_after(self.kinds.0)))
+        match self.kinds.0 {
+            None => Ok(CowStr::Borrowed("unasked")),
+            Some(CmdKind::MoveCursor) => Ok(CowStr::Borrowed("after a move")),
+            Some(CmdKind::Other) => Ok(CowStr::Borrowed("after an edit")),
+            Some(CmdKind::ForcedRefresh) => Ok(CowStr::Borrowed("for the last time")),
+        }
     }
 
     fn highlight_char(&mut self, _line: &str, _pos: usize, kind: CmdKind) -> bool {

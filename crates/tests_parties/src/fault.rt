@@ -37,9 +37,6 @@ pub const ASLEEP: Fault = Fault {
     text: "the party is asleep",
 };
 
-/// Three faults, no two of one kind or one text.
-pub const FAULTS: &[Fault] = &[USUAL, GONE, CUT];
-
 impl Fault {
     /// The error of a stream that fails by it.
     pub fn cause(self) -> Error {

@@ -8,42 +8,31 @@ use line_parts::history::{SearchDirection, SearchResult};
 use line_parts::{History, MemHistory};
 use std::alloc::Global;
 
-/// A call that can fail: a look-up with the index that is looked at first, or a change of the lines or of the rules.
+/// A look-up, with the index that is looked at first.
 #[derive(Clone, Copy, PartialEq, Eq)]
 pub enum Call {
     Get(usize),
     Search(usize),
     StartsWith(usize),
-    Change,
 }
 
-/// Which calls fail.
+/// Which look-ups fail.
 #[derive(Clone, Copy)]
 pub enum Failing {
-    /// This call alone.
+    /// This one alone.
     Only(Call),
-    /// All other calls.
+    /// All others.
     AllBut(Call),
-    /// All calls.
+    /// All.
     All,
 }
 
-impl Failing {
-    fn has(self, call: Call) -> bool {
-        match self {
-            Failing::Only(one) => one == call,
-            Failing::AllBut(one) => one != call,
-            Failing::All => true,
-        }
-    }
-}
-
-/// A history: lines that are kept in memory, how many look-ups come up to the one that fails, and which calls fail
-/// each time, by what.
+/// A history: lines that are kept in memory, and how many look-ups come up to the one that fails.
 pub struct Shelf {
     lines: MemHistory,
     countdown: Countdown,
-    failing: Option<(Failing, Fault)>,
+    /// The look-ups that fail each time, and by which fault.
+    pub failing: Option<(Failing, Fault)>,
 }
 
 impl Drop for Shelf {
@@ -71,18 +60,14 @@ impl Shelf {
         self.countdown = Countdown::with(failing, fault);
     }
 
-    /// From now on these calls fail, by this fault, each time. A call that fails changes nothing.
-    pub fn fail_in(&mut self, failing: Failing, fault: Fault) {
-        self.failing = Some((failing, fault));
-    }
-
-    /// Counts a look-up, and fails where this call is to fail.
+    /// Counts a look-up, and fails where it is to fail.
     fn called(&self, call: Call) -> Result<()>
         ensures { FaultsOnly result }
     {
-        match (self.failing, call) {
-            (Some((failing, fault)), _) if failing.has(call) => fault.answer(),
-            (_, Call::Change) => Ok(()),
+        match self.failing {
+            Some((Failing::Only(one), fault)) if one == call => fault.answer(),
+            Some((Failing::AllBut(one), fault)) if one != call => fault.answer(),
+            Some((Failing::All, fault)) => fault.answer(),
             _ => self.countdown.call(),
         }
     }
@@ -103,12 +88,10 @@ impl History for Shelf {
     }
 
     fn add(&mut self, line: &str) -> Result<bool> {
-        self.called(Call::Change)?;
         self.lines.add(line)
     }
 
     fn add_owned(&mut self, line: String) -> Result<bool> {
-        self.called(Call::Change)?;
         self.lines.add_owned(line)
     }
 
@@ -117,12 +100,10 @@ impl History for Shelf {
     }
 
     fn set_max_len(&mut self, len: usize) -> Result<()> {
-        self.called(Call::Change)?;
         self.lines.set_max_len(len)
     }
 
     fn ignore_dups(&mut self, yes: bool) -> Result<()> {
-        self.called(Call::Change)?;
         self.lines.ignore_dups(yes)
     }
 
@@ -131,7 +112,6 @@ impl History for Shelf {
     }
 
     fn clear(&mut self) -> Result<()> {
-        self.called(Call::Change)?;
         self.lines.clear()
     }
 

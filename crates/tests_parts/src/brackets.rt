@@ -1,8 +1,7 @@
 //! Brackets: their validation results, and what the highlighter remembers, forgets and shows.
 
-use crate::ready::{Asked, Case, is_text, says};
-use line_config::Result;
-use line_parts::{CmdKind, Highlighter, MatchingBracketHighlighter, MatchingBracketValidator};
+use crate::ready::{Asked, Case};
+use line_parts::{CmdKind, Highlighter, MatchingBracketHighlighter};
 use std::alloc::Global;
 use std::process::Abort;
 
@@ -23,7 +22,7 @@ pub(super) fn remembers(line: &str, pos: usize, wanted: bool) -> bool {
 }
 
 /// What a highlighter is told of: a line and the cursor, and then perhaps another line, by a kind and at its start.
-type Told<'t> = (&'t str, usize, Option<(CmdKind, &'t str)>);
+pub(super) type Told<'t> = (&'t str, usize, Option<(CmdKind, &'t str)>);
 
 /// Whether a line is shown so once the highlighter was told, whatever drew the first line and wherever the cursor is now;
 /// and as it stands before.
@@ -40,43 +39,16 @@ pub(super) fn shows(
             CmdKind::MoveCursor => MatchingBracketHighlighter::new(),
             _ => MatchingBracketHighlighter::default(),
         };
-        let stands = is_text(highlighter.highlight(alloc, line, cursor), line);
-        right = right && stands.expect(rt, "no fault");
+        let before = highlighter.highlight(alloc, line, cursor);
+        right = right && before.expect(rt, "no fault").as_str() == line;
         let _ = highlighter.highlight_char(told.0, told.1, kind);
         if let Some((next, other)) = told.2 {
             let _ = highlighter.highlight_char(other, 0, next);
         }
-        let shown = is_text(highlighter.highlight(alloc, line, cursor), wanted);
-        right = right && shown.expect(rt, "no fault");
+        let shown = highlighter.highlight(alloc, line, cursor);
+        right = right && shown.expect(rt, "no fault").as_str() == wanted;
     }
     right
-}
-
-/// Whether this is the validation result for the brackets of a text; the unit takes each text.
-fn is_verdict(alloc: Global, text: &str, wanted: (&str, &str)) -> Result<bool> {
-    Ok(
-        says(alloc, &MatchingBracketValidator::new(), text, wanted)?
-            && says(alloc, &MatchingBracketValidator::default(), text, wanted)?
-            && says(alloc, &(), text, ("valid", ""))?,
-    )
-}
-
-/// Whether the answer about brackets is the right one.
-pub(super) fn is_right(
-    rt: &impl Abort,
-    alloc: Global,
-    text: &str,
-    asked: Asked<'_>,
-) -> Result<bool> {
-    let (told, line, shown) = match asked {
-        Asked::Verdict(name, message) => return is_verdict(alloc, text, (name, message)),
-        Asked::Remembered(pos, found) => return Ok(remembers(text, pos, found)),
-        Asked::Match(pos, shown) => ((text, pos, None), text, shown),
-        Asked::MatchIn(pos, line, shown) => ((text, pos, None), line, shown),
-        Asked::MatchAfter(kind, line, shown) => ((text, 0, Some((kind, line))), text, shown),
-        _ => return Ok(false),
-    };
-    Ok(shows(rt, alloc, told, line, shown))
 }
 
 /// Texts with a bracket at fault.

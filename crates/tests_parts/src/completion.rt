@@ -24,16 +24,22 @@ pub(super) fn is_right(
     asked: Asked<'_>,
 ) -> Result<bool> {
     match asked {
-        Asked::Word(pos, esc_char, start, word) => {
-            Ok(is_last_word(text, pos, esc_char, (start, word)))
-        }
+        Asked::Word(pos, esc_char, start, word) => Ok(
+            text.is_char_boundary(pos)
+                && extract_word(text, pos, esc_char, breaks) == (start, word),
+        ),
         Asked::Escaped(esc_char, quote, wanted) => {
-            is_escaped(alloc, text, (esc_char, quote), wanted)
+            let text = String::from_str(alloc, text)?;
+            Ok(escape(text, esc_char, breaks, quote)?.as_str() == wanted)
         }
         Asked::Unescaped(esc_char, wanted, same) => {
-            is_unescaped(alloc, text, esc_char, (wanted, same))
+            let found = unescape(alloc, text, esc_char)?;
+            Ok(found.as_str() == wanted && matches!(found, CowStr::Borrowed(_)) == same)
         }
-        Asked::Alike(count, wanted) => Ok(begin_alike(rt, alloc, text, count, wanted)),
+        Asked::Alike(count, wanted) => {
+            let texts: Vec<&str> = text.split('|').take(count).collect(alloc)?;
+            Ok(longest_common_prefix(texts.as_slice()) == wanted)
+        }
         Asked::Paired(replacement, other, common) => {
             are_paired(alloc, (text, replacement), other, common)
         }
@@ -42,48 +48,6 @@ pub(super) fn is_right(
         }
         _ => Ok(false),
     }
-}
-
-/// Whether the word before a cursor begins there, and is this one.
-fn is_last_word(text: &str, pos: usize, esc_char: Option<char>, wanted: (usize, &str)) -> bool {
-    text.is_char_boundary(pos) && extract_word(text, pos, esc_char, breaks) == wanted
-}
-
-/// Whether the text with its escapes, by an escape character and the quotes in which it stands, is this one.
-fn is_escaped(
-    alloc: Global,
-    text: &str,
-    (esc_char, quote): (Option<char>, Quote),
-    wanted: &str,
-) -> Result<bool> {
-    let text = String::from_str(alloc, text)?;
-    Ok(escape(text, esc_char, breaks, quote)?.as_str() == wanted)
-}
-
-/// Whether the text without its escapes is this one, and the text itself where it is to be.
-fn is_unescaped(
-    alloc: Global,
-    text: &str,
-    esc_char: Option<char>,
-    (wanted, same): (&str, bool),
-) -> Result<bool> {
-    let found = unescape(alloc, text, esc_char)?;
-    Ok(found.as_str() == wanted && matches!(found, CowStr::Borrowed(_)) == same)
-}
-
-/// Whether the first of the texts between the strokes, so many of them, begin so in common: it is borrowed from the first.
-fn begin_alike(
-    rt: &impl Abort,
-    alloc: Global,
-    texts: &str,
-    count: usize,
-    wanted: Option<&str>,
-) -> bool {
-    let mut candidates = Vec::new(alloc);
-    for text in texts.split('|').take(count) {
-        candidates.push(text).expect(rt, "no fault");
-    }
-    longest_common_prefix(candidates.as_slice()) == wanted
 }
 
 /// Whether the copy of a pair is that pair, and its replacement begins with that of another pair as it is to.

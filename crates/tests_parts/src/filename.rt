@@ -6,25 +6,24 @@ ghost use Rattle.line_parts.specs.Completed.{listed_of};
 
 mod faults;
 
-use crate::holds;
 use crate::ready::{Asked, Case, broken_history};
 use Way::{Boxed, ByTrait, Sorted, Unsorted};
+pub(super) use faults::{BREAKS, EACH_WAY, FAULTY};
 use line_config::Result;
 use line_parts::{Completer, Context, Entry, FilenameCompleter, Lister, Pair};
 use std::alloc::Global;
-use std::process::Abort;
 use tests_parties::countdown::Countdown;
 use tests_parties::fault::{Fault, GONE};
 
 /// Which calls of a lister fail.
 #[derive(Clone, Copy)]
-enum Broken {
+pub(super) enum Broken {
     /// The one of this number, from 1 on; none where that is 0.
     Call(u64),
-    /// Those for this folder.
-    At(&'static str),
+    /// Those for its folder.
+    At,
     /// Those for other folders.
-    ButAt(&'static str),
+    ButAt,
 }
 
 /// The one folder that can be listed, with the names in it, in a lister of which some calls fail.
@@ -60,16 +59,14 @@ impl Lister for Folder {
 
     fn list(&self, alloc: Global, dir: &str) -> Result<Option<Vec<Entry>>> {
         self.countdown.call()?;
-        let broken = match self.broken {
-            Broken::Call(_) => false,
-            Broken::At(path) => dir == path,
-            Broken::ButAt(path) => dir != path,
-        };
-        if broken {
-            return self.fault.answer();
-        }
         if dir != self.path.as_str() {
-            return Ok(None);
+            return match self.broken {
+                Broken::ButAt => self.fault.answer(),
+                _ => Ok(None),
+            };
+        }
+        if matches!(self.broken, Broken::At) {
+            return self.fault.answer();
         }
         Ok(Some(copied(alloc, self.entries.as_slice())?))
     }
@@ -104,7 +101,7 @@ fn folder_of(
 
 /// By which call names are asked for.
 #[derive(Clone, Copy)]
-enum Way {
+pub(super) enum Way {
     Sorted,
     Unsorted,
     ByTrait,
@@ -148,62 +145,69 @@ fn is_offered(found: &(usize, Vec<Pair>), wanted: Offered<'_>) -> bool {
 }
 
 /// By whom names are asked for in their order.
-const IN_ORDER: &[Way] = &[Sorted, ByTrait, Boxed];
+pub(super) const IN_ORDER: &[Way] = &[Sorted, ByTrait, Boxed];
 
 /// By whom they are asked for in that of the lister.
-const AS_LISTED: &[Way] = &[Unsorted];
+pub(super) const AS_LISTED: &[Way] = &[Unsorted];
 
 /// A line, its cursor, the folder that is asked for, its names, and what is found.
-type Completed<'t> = (&'t str, usize, (&'t str, &'t str), Offered<'t>);
+pub(super) type Completed<'t> = (&'t str, usize, (&'t str, &'t str), Offered<'t>);
 
-/// Whether the names of a folder, asked for by one call, complete a line so, or the fault comes where it is to.
-fn completes_by(
-    alloc: Global,
-    way: Way,
-    case: Completed<'_>,
-    broken: Broken,
-    fault: Fault,
-) -> Result<bool> {
-    let (line, pos, folder, wanted) = case;
-    if !line.is_char_boundary(pos) {
-        return Ok(false);
-    }
-    let lister = folder_of(alloc, folder, broken, fault)?;
-    let outcome = found(alloc, way, lister, line, pos);
-    match broken {
-        Broken::Call(1) | Broken::At(_) => fault.is_answer(alloc, &outcome),
-        _ => Ok(is_offered(&outcome?, wanted)),
-    }
-}
-
-/// Whether they do so by each of these calls.
-fn completes(
+/// Whether the names of a folder, asked for by each of these calls, complete a line so, or the fault comes where it is to.
+pub(super) fn completes(
     alloc: Global,
     ways: &[Way],
     case: Completed<'_>,
     broken: Broken,
     fault: Fault,
 ) -> Result<bool> {
+    let (line, pos, folder, wanted) = case;
     for way in ways {
-        if !completes_by(alloc, *way, case, broken, fault)? {
+        if !line.is_char_boundary(pos) {
+            return Ok(false);
+        }
+        let lister = folder_of(alloc, folder, broken, fault)?;
+        let outcome = found(alloc, *way, lister, line, pos);
+        let right = match broken {
+            Broken::Call(1) | Broken::At => fault.is_answer(alloc, &outcome)?,
+            _ => is_offered(&outcome?, wanted),
+        };
+        if !right {
             return Ok(false);
         }
     }
     Ok(true)
 }
 
-/// Whether the answer about a path is the right one.
-pub(super) fn is_right(alloc: Global, text: &str, asked: Asked<'_>) -> Result<bool> {
-    let (ways, case) = match asked {
-        Asked::Path(pos, path, names, start, offers) => {
-            (IN_ORDER, (text, pos, (path, names), (start, offers)))
+/// How many names complete a line, and the last of them, as it is shown and put in, where it is told.
+pub(super) type Last<'t> = (usize, Option<(&'t str, &'t str)>);
+
+/// Whether so many of the folders `n 2999`, `n 2998` and so on, down to `n 0`, complete the line, and the last of them is the
+/// one that is told.
+pub(super) fn are_many(
+    alloc: Global,
+    line: &str,
+    way: Way,
+    (count, last): Last<'_>,
+) -> Result<bool> {
+    let mut names = String::new(alloc);
+    for number in (0..3_000).rev() {
+        let name = format!(in alloc; "n {number}/,")?;
+        names.push_str(name.as_str())?;
+    }
+    if !line.is_char_boundary(line.len()) {
+        return Ok(false);
+    }
+    let names = names.as_str().trim_end_matches(',');
+    let folder = folder_of(alloc, ("", names), Broken::Call(0), GONE)?;
+    let (_, pairs) = found(alloc, way, folder, line, line.len())?;
+    let is_last = match (last, pairs.last()) {
+        (Some((display, replacement)), Some(pair)) => {
+            pair.display.as_str() == display && pair.replacement.as_str() == replacement
         }
-        Asked::Listed(pos, path, names, start, offers) => {
-            (AS_LISTED, (text, pos, (path, names), (start, offers)))
-        }
-        _ => return Ok(false),
+        (last, _) => last.is_none(),
     };
-    completes(alloc, ways, case, Broken::Call(0), GONE)
+    Ok(pairs.len() == count && is_last)
 }
 
 /// The names of most cases.
@@ -397,57 +401,15 @@ pub(super) const CASES: &[Case<'_>] = &[
             "Users → Users/, User Information → User\\ Information/",
         ),
     ),
+    // Of the numbers below 3,000 there are 1,111 that begin with 1: 1, 10, 100, 1000 and so on. In their order the last is
+    // 999.
+    (
+        "",
+        Asked::Many(Sorted, (3_000, Some(("n 999", "n\\ 999/")))),
+    ),
+    ("", Asked::Many(Unsorted, (3_000, None))),
+    ("n\\ 1", Asked::Many(Sorted, (1_111, None))),
+    ("n\\ 1", Asked::Many(Unsorted, (1_111, None))),
+    ("x", Asked::Many(Sorted, (0, None))),
+    ("x", Asked::Many(Unsorted, (0, None))),
 ];
-
-/// Folders `n 2999`, `n 2998` and so on, down to `n 0`.
-fn many_names(rt: &impl Abort, alloc: Global) -> String {
-    let mut names = String::new(alloc);
-    for number in (0..3_000).rev() {
-        let name = format!(in alloc; "n {number}/,").expect(rt, "no fault");
-        names.push_str(name.as_str()).expect(rt, "no fault");
-    }
-    names
-}
-
-/// A line, a call, how many names complete it, and the last of them, as it is shown and put in, where it is told.
-type Many = (
-    &'static str,
-    Way,
-    usize,
-    Option<(&'static str, &'static str)>,
-);
-
-/// Of the numbers below 3,000 there are 1,111 that begin with 1: 1, 10, 100, 1000 and so on. In their order the last is 999.
-const MANY: &[Many] = &[
-    ("", Sorted, 3_000, Some(("n 999", "n\\ 999/"))),
-    ("", Unsorted, 3_000, None),
-    ("n\\ 1", Sorted, 1_111, None),
-    ("n\\ 1", Unsorted, 1_111, None),
-    ("x", Sorted, 0, None),
-    ("x", Unsorted, 0, None),
-];
-
-/// Whether so many of these names complete the line, and the last of them is the one that is told.
-fn are_many(rt: &impl Abort, alloc: Global, names: &str, (line, way, count, last): Many) -> bool {
-    if !line.is_char_boundary(line.len()) {
-        return false;
-    }
-    let folder = folder_of(alloc, ("", names), Broken::Call(0), GONE).expect(rt, "no fault");
-    let (_, pairs) = found(alloc, way, folder, line, line.len()).expect(rt, "no fault");
-    let is_last = match (last, pairs.last()) {
-        (Some((display, replacement)), Some(pair)) => {
-            pair.display.as_str() == display && pair.replacement.as_str() == replacement
-        }
-        (last, _) => last.is_none(),
-    };
-    pairs.len() == count && is_last
-}
-
-#[test]
-fn of_many_names(rt: HostRuntime) {
-    let names = many_names(&rt, rt.alloc());
-    for (index, row) in MANY.iter().enumerate() {
-        let names = names.as_str().trim_end_matches(',');
-        holds(&rt, are_many(&rt, rt.alloc(), names, *row), row.0, index);
-    }
-}

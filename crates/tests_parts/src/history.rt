@@ -11,6 +11,7 @@ use crate::holds;
 use Lines::*;
 use line_config::{ReadlineError, Result};
 use line_parts::{Escapes, FileHistory, History, MemHistory, SearchDirection};
+use round_trips::{NONE, TRIPS, come_back};
 use std::alloc::Global;
 use std::borrow::CowStr;
 use std::io::{ErrorKind, Write};
@@ -194,19 +195,6 @@ fn is_saved(
     saved
 }
 
-/// What a history keeps: each of these lines, of which this text is appended. Returns whether the save found its memory.
-fn keeps(
-    rt: &impl Abort,
-    alloc: Global,
-    history: &mut FileHistory,
-    lines: &str,
-    escapes: Escapes,
-    appended: &str,
-) -> bool {
-    gives(rt, history, lines);
-    is_saved(rt, alloc, history, escapes, true, appended)
-}
-
 /// Histories take, keep and save the lines that they are to, and find them.
 #[test]
 fn take_keep_and_find_lines(rt: HostRuntime) {
@@ -218,5 +206,22 @@ fn take_keep_and_find_lines(rt: HostRuntime) {
     for case in searches::SEARCHES {
         searches::finds(&rt, alloc, &mut MemHistory::new(alloc), case);
         searches::finds(&rt, alloc, &mut FileHistory::new(alloc), case);
+    }
+}
+
+/// The lines of each text come back; and each line of up to three of the characters, alone. Without an escape for it, the
+/// carriage return at its end is lost.
+#[test]
+fn come_back_from_their_text(rt: HostRuntime) {
+    let alloc = rt.alloc();
+    for trip in TRIPS {
+        come_back(&rt, alloc, trip);
+    }
+    for number in 1..400 {
+        let line = Short(number, number.saturating_add(1));
+        for (escapes, loaded) in [(Escapes::V2, Cut(number)), (Escapes::V3, line)] {
+            let trip = (escapes, Some(line), None, 100, None, loaded, NONE);
+            come_back(&rt, alloc, &trip);
+        }
     }
 }

@@ -5,21 +5,25 @@ mod faults;
 use crate::ready::{Asked, Case, is_hint};
 pub(super) use faults::{FAULTY, asks};
 use line_config::Result;
-use line_parts::{Context, Hinter, History, HistoryHinter, MemHistory};
+use line_parts::{Context, Hinter, History, HistoryHinter};
 use std::alloc::Global;
 
 /// A line, the cursor, and the hint, if there is one.
 type Hinted<'t> = (&'t str, usize, Option<&'t str>);
 
-/// Whether the line has this hint, looked for from an index of the history, or from its end where there are fewer lines;
-/// the unit has none.
-fn hints_from<S: History>(
+/// Whether the line has this hint by the lines between the strokes, which the history gets, looked for from an index, or from
+/// the end where there are fewer lines; the unit has none.
+pub(super) fn hints<S: History>(
     alloc: Global,
     hinter: &HistoryHinter,
-    history: &S,
-    index: usize,
+    history: &mut S,
+    (lines, index): (&str, usize),
     (line, pos, wanted): Hinted<'_>,
 ) -> Result<bool> {
+    for line in lines.split('|') {
+        let _ = history.add(line)?;
+    }
+    let history = &*history;
     let mut ctx = Context::new(history);
     if index < history.len() {
         ctx.set_history_index(index);
@@ -27,15 +31,6 @@ fn hints_from<S: History>(
     let none = ().hint(alloc, line, pos, &ctx)?.is_none();
     let hint = hinter.hint(alloc, line, pos, &ctx)?;
     Ok(none && is_hint(&hint, wanted))
-}
-
-/// Whether the line has this hint by the lines between the strokes.
-pub(super) fn hints(alloc: Global, lines: &str, index: usize, hinted: Hinted<'_>) -> Result<bool> {
-    let mut history = MemHistory::new(alloc);
-    for line in lines.split('|') {
-        let _ = history.add(line)?;
-    }
-    hints_from(alloc, &HistoryHinter::new(), &history, index, hinted)
 }
 
 /// Lines of which several begin alike.

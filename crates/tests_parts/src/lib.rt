@@ -1,4 +1,4 @@
-//! The tests of what a line editor asks, as tables of cases.
+//! The tests of the line buffer, of the settings, and of what a line editor asks, as tables of cases.
 #![tactic(auto)]
 
 #[cfg(test)]
@@ -6,6 +6,8 @@ use std::process::Abort;
 
 #[cfg(test)]
 mod brackets;
+#[cfg(test)]
+mod buffer;
 #[cfg(test)]
 mod completion;
 #[cfg(test)]
@@ -20,6 +22,8 @@ mod large;
 mod parties;
 #[cfg(test)]
 mod ready;
+#[cfg(test)]
+mod settings;
 #[cfg(test)]
 mod values;
 

@@ -2,15 +2,16 @@
 
 mod faults;
 
-use crate::ready::{Asked, Case, is_hint, is_text, says};
-use crate::{history_hinter, holds};
-pub(super) use faults::{Answer, helped};
+use crate::ready::{Asked, Case, is_hint, says};
+use crate::{filename, history_hinter, holds};
+use faults::{Answer, answers};
 use line_config::CompletionType;
 use line_parts::{Candidate, CmdKind, Context, Helper, Highlighter, Hint, History, MemHistory};
 use std::alloc::Global;
+use std::io::ErrorKind;
 use std::process::Abort;
 use tests_parties::advisor::Advisor;
-use tests_parties::fault::{FAULTS, Fault};
+use tests_parties::fault::{CUT, Fault, GONE, USUAL};
 
 /// Whether a candidate and a hint stand for this text.
 fn stands<T: Candidate + Hint>(value: &T, text: &str) -> bool {
@@ -18,25 +19,44 @@ fn stands<T: Candidate + Hint>(value: &T, text: &str) -> bool {
     shown == (text, text) && value.replacement() == text && value.completion() == Some(text)
 }
 
-/// Whether the unit shows a text as it is.
-fn shows_plain(rt: &impl Abort, alloc: Global, text: &str) -> bool {
-    let unit = &mut ();
-    let candidate = unit.highlight_candidate(alloc, text, CompletionType::List);
-    is_text(candidate, text).expect(rt, "no fault")
-        && is_text(unit.highlight(alloc, text, 0), text).expect(rt, "no fault")
-        && is_text(unit.highlight_prompt(alloc, text, true), text).expect(rt, "no fault")
-        && is_text(unit.highlight_hint(alloc, text), text).expect(rt, "no fault")
-        && !unit.highlight_char(text, 0, CmdKind::Other)
-}
+/// A line that is valid, without a message.
+const VALID: Answer = Answer::Verdict("valid", "");
 
-/// Whether a text stands for itself, and the unit and no helper at all leave it as it is.
+/// Whether a text stands for itself, the unit and no helper at all leave it as it is, and an editor gets a helper's answers
+/// about it.
 pub(super) fn stays(rt: &impl Abort, alloc: Global, text: &str) -> bool {
     let owned = String::from_str(alloc, text).expect(rt, "no fault");
-    stands(&text, text)
-        && stands(&owned, text)
-        && shows_plain(rt, alloc, text)
-        && faults::asks_nothing(rt, alloc, None, text)
-        && faults::asks_nothing(rt, alloc, Some(&mut ()), text)
+    let unit = &mut ();
+    let is_lit = unit.highlight_char(text, 0, CmdKind::Other);
+    let candidate = unit.highlight_candidate(alloc, text, CompletionType::List);
+    let is_plain = candidate.expect(rt, "no fault").as_str() == text
+        && unit
+            .highlight(alloc, text, 0)
+            .expect(rt, "no fault")
+            .as_str()
+            == text
+        && unit
+            .highlight_prompt(alloc, text, true)
+            .expect(rt, "no fault")
+            .as_str()
+            == text
+        && unit
+            .highlight_hint(alloc, text)
+            .expect(rt, "no fault")
+            .as_str()
+            == text;
+    let mut right = is_plain && !is_lit && stands(&text, text) && stands(&owned, text);
+    for (wanted, told) in [
+        (Answer::Hint(None), Answer::Hint(Some("!"))),
+        (VALID, VALID),
+    ] {
+        let mut advisor = Advisor::new(Some("!"), (true, true, None), None);
+        right = right
+            && answers(rt, alloc, None::<&mut ()>, text, wanted, None)
+            && answers(rt, alloc, Some(&mut ()), text, wanted, None)
+            && answers(rt, alloc, Some(&mut advisor), text, told, None);
+    }
+    right
 }
 
 pub(super) const CASES: &[Case<'_>] = &[
@@ -49,10 +69,10 @@ pub(super) const CASES: &[Case<'_>] = &[
 ];
 
 /// Whether the line `ab` is lit, its hint, and the name and message of its validation result.
-type Answers = (bool, Option<&'static str>, (&'static str, &'static str));
+type Told = (bool, Option<&'static str>, (&'static str, &'static str));
 
 /// Whether a helper answers so, beside a new history, which is empty.
-fn answers<H: Helper>(rt: &impl Abort, alloc: Global, helper: &mut H, wanted: Answers) -> bool {
+fn tells<H: Helper>(rt: &impl Abort, alloc: Global, helper: &mut H, wanted: Told) -> bool {
     let (lit, text, verdict) = wanted;
     let history = MemHistory::new(alloc);
     let mut ctx = Context::new(&history);
@@ -65,35 +85,44 @@ fn answers<H: Helper>(rt: &impl Abort, alloc: Global, helper: &mut H, wanted: An
     is_empty && is_lit == lit && is_hint(&hint, text) && is_said
 }
 
-/// A helper keeps its answers, and so does the unit.
-#[test]
-fn a_helper_keeps_its_answers(rt: HostRuntime) {
-    let alloc = rt.alloc();
-    let moved = Some(CmdKind::MoveCursor);
-    let mut advisor = Advisor::new(Some("!"), (true, false, Some("no")), moved);
-    let wanted = (true, Some("!"), ("invalid", "no"));
-    let first = answers(&rt, alloc, &mut advisor, wanted);
-    let again = answers(&rt, alloc, &mut advisor, wanted);
-    let unit = answers(&rt, alloc, &mut (), (false, None, ("valid", "")));
-    let told = advisor.kinds() == (moved, moved, None, None);
-    assert!(rt; first && again && unit && told);
-}
+/// A folder that is not there.
+const LOST: Fault = Fault {
+    kind: ErrorKind::NotFound,
+    text: "no such folder",
+};
 
-/// Each answer, and this error of a helper or a history, is handed on.
-fn hand_on(rt: &impl Abort, alloc: Global, fault: Fault) {
-    for (row, case) in faults::CASES.iter().enumerate() {
-        let found = helped(rt, alloc, case, "ab", fault);
-        holds(rt, found, fault.text, row);
-    }
-    for (row, case) in history_hinter::FAULTY.iter().enumerate() {
-        let found = history_hinter::asks(rt, alloc, case, fault);
-        holds(rt, found, fault.text, row);
-    }
-}
-
+/// A helper keeps its answers, and so does the unit. Each answer, and each error of a helper, a history or a lister, is
+/// handed on.
 #[test]
 fn answers_and_errors_are_handed_on(rt: HostRuntime) {
-    for fault in FAULTS {
-        hand_on(&rt, rt.alloc(), *fault);
+    let (alloc, moved) = (rt.alloc(), Some(CmdKind::MoveCursor));
+    let mut advisor = Advisor::new(Some("!"), (true, false, Some("no")), moved);
+    for _ in 0..2 {
+        let wanted = (true, Some("!"), ("invalid", "no"));
+        let told = tells(&rt, alloc, &mut advisor, wanted);
+        holds(&rt, told, "advisor", 0);
+    }
+    let unit = tells(&rt, alloc, &mut (), (false, None, ("valid", "")));
+    let is_told = advisor.kinds() == (moved, moved, None, None);
+    holds(&rt, unit && is_told, "unit", 0);
+    for fault in [USUAL, GONE, CUT, LOST] {
+        for (row, case) in faults::CASES.iter().enumerate() {
+            let ((hint, verdict), failing, wanted, faulty) = *case;
+            let mut advisor = Advisor::new(hint, verdict, None);
+            advisor.fail_by(failing, fault);
+            let comes = if faulty { Some(fault) } else { None };
+            let found = answers(&rt, alloc, Some(&mut advisor), "ab", wanted, comes);
+            holds(&rt, found, fault.text, row);
+        }
+        for (row, case) in history_hinter::FAULTY.iter().enumerate() {
+            let found = history_hinter::asks(&rt, alloc, case, fault);
+            holds(&rt, found, fault.text, row);
+        }
+        for broken in filename::BREAKS {
+            for (row, case) in filename::FAULTY.iter().enumerate() {
+                let found = filename::completes(alloc, filename::EACH_WAY, *case, *broken, fault);
+                holds(&rt, found.expect(&rt, "no fault"), fault.text, row);
+            }
+        }
     }
 }

@@ -1,14 +1,15 @@
 //! The ready helpers: a case is a text, what is asked about it, and the right answer.
 
+use crate::brackets::{remembers, shows};
+use crate::filename::{AS_LISTED, Broken, IN_ORDER, Way, completes};
 use crate::history::built;
 use crate::{brackets, completion, filename, history_hinter, holds, large, parties};
 use line_config::{ReadlineError, Result};
 use line_parts::{
-    CmdKind, Highlighter, Hint, MatchingBracketHighlighter, Quote, ValidationContext,
-    ValidationResult, Validator,
+    CmdKind, Highlighter, Hint, HistoryHinter, MatchingBracketHighlighter,
+    MatchingBracketValidator, MemHistory, Quote, ValidationContext, ValidationResult, Validator,
 };
 use std::alloc::Global;
-use std::borrow::CowStr;
 use std::process::Abort;
 use tests_parties::fault::GONE;
 use tests_parties::shelf::{Failing, Shelf};
@@ -50,6 +51,8 @@ pub(super) enum Asked<'t> {
     Path(usize, &'t str, &'t str, usize, &'t str),
     /// The same, in the order of the lister.
     Listed(usize, &'t str, &'t str, usize, &'t str),
+    /// Of some thousand folders, by one call: how many complete it, and the last of them.
+    Many(Way, filename::Last<'t>),
 }
 
 /// The name of a validation result and its message, empty where it has none.
@@ -84,33 +87,48 @@ pub(super) fn is_hint<T: Hint>(hint: &Option<T>, wanted: Option<&str>) -> bool {
     }
 }
 
-/// Whether an answer is this text.
-pub(super) fn is_text(answer: Result<CowStr<'_>>, wanted: &str) -> Result<bool> {
-    Ok(answer?.as_str() == wanted)
-}
-
-/// A history without lines, of which each call fails.
+/// A history without lines, of which each look-up fails.
 pub(super) fn broken_history(alloc: Global) -> Shelf {
     let mut history = Shelf::new(alloc, 0);
-    history.fail_in(Failing::All, GONE);
+    history.failing = Some((Failing::All, GONE));
     history
 }
 
 /// Whether the answer is the right one. What is also asked with an allocation refused hands its error on.
 fn is_right(rt: &impl Abort, alloc: Global, text: &str, asked: Asked<'_>) -> Result<bool> {
     match asked {
+        // the unit takes each text
+        Asked::Verdict(name, message) => {
+            let wanted = (name, message);
+            let one = MatchingBracketValidator::new();
+            let other = MatchingBracketValidator::default();
+            let right = says(alloc, &one, text, wanted)? && says(alloc, &other, text, wanted)?;
+            Ok(right && says(alloc, &(), text, ("valid", ""))?)
+        }
+        Asked::Remembered(pos, found) => Ok(remembers(text, pos, found)),
+        Asked::Match(pos, shown) => Ok(shows(rt, alloc, (text, pos, None), text, shown)),
+        Asked::MatchIn(pos, line, shown) => Ok(shows(rt, alloc, (text, pos, None), line, shown)),
+        Asked::MatchAfter(kind, line, shown) => {
+            let told = (text, 0, Some((kind, line)));
+            Ok(shows(rt, alloc, told, text, shown))
+        }
         Asked::Hint(lines, index, pos, wanted) => {
-            history_hinter::hints(alloc, lines, index, (text, pos, wanted))
+            let mut history = MemHistory::new(alloc);
+            let (hinter, hinted) = (HistoryHinter::new(), (text, pos, wanted));
+            history_hinter::hints(alloc, &hinter, &mut history, (lines, index), hinted)
         }
         Asked::Plain => Ok(parties::stays(rt, alloc, text)),
-        Asked::Path(..) | Asked::Listed(..) => filename::is_right(alloc, text, asked),
-        Asked::Word(..)
-        | Asked::Escaped(..)
-        | Asked::Unescaped(..)
-        | Asked::Alike(..)
-        | Asked::Elected(..)
-        | Asked::Paired(..) => completion::is_right(rt, alloc, text, asked),
-        _ => brackets::is_right(rt, alloc, text, asked),
+        Asked::Path(pos, path, names, start, offers)
+        | Asked::Listed(pos, path, names, start, offers) => {
+            let ways = match asked {
+                Asked::Listed(..) => AS_LISTED,
+                _ => IN_ORDER,
+            };
+            let case = (text, pos, (path, names), (start, offers));
+            completes(alloc, ways, case, Broken::Call(0), GONE)
+        }
+        Asked::Many(way, last) => filename::are_many(alloc, text, way, last),
+        _ => completion::is_right(rt, alloc, text, asked),
     }
 }
 
@@ -125,6 +143,7 @@ pub(super) fn are_right(rt: &impl Abort, alloc: Global, table: &[Case<'_>], may_
     }
 }
 
+/// Answers about long texts, which are built of pieces, too.
 #[test]
 fn answers_are_right(rt: HostRuntime) {
     let alloc = rt.alloc();
@@ -134,14 +153,13 @@ fn answers_are_right(rt: HostRuntime) {
     are_right(&rt, alloc, completion::CASES, false);
     are_right(&rt, alloc, history_hinter::CASES, false);
     are_right(&rt, alloc, filename::CASES, false);
-}
-
-#[test]
-fn answers_about_long_texts_are_right(rt: HostRuntime) {
-    for (long, text, wanted) in large::CASES {
-        let text = built(&rt, rt.alloc(), text);
-        let wanted = built(&rt, rt.alloc(), wanted);
-        large::answers(&rt, rt.alloc(), long, text.as_str(), wanted.as_str());
+    for (row, (long, text, wanted, other)) in large::CASES.iter().enumerate() {
+        let text = built(&rt, alloc, text);
+        let wanted = built(&rt, alloc, wanted);
+        let other = built(&rt, alloc, other);
+        let asked = large::asked_of(long, text.as_str(), wanted.as_str(), other.as_str());
+        let right = is_right(&rt, alloc, text.as_str(), asked).expect(&rt, "no fault");
+        holds(&rt, right, text.as_str(), row);
     }
 }
 
@@ -193,9 +211,8 @@ fn a_refused_allocation_has_no_answer(rt: HostRuntime) {
     let mut highlighter = MatchingBracketHighlighter::new();
     assert!(rt; highlighter.highlight_char("日(é)", 3, CmdKind::MoveCursor));
     for _ in 0..3 {
-        let shown = highlighter.highlight(rt.alloc(), "日(é)", 3);
-        let right = match is_text(shown, "日(é\x1b[1;34m)\x1b[0m") {
-            Ok(right) => right,
+        let right = match highlighter.highlight(rt.alloc(), "日(é)", 3) {
+            Ok(shown) => shown.as_str() == "日(é\x1b[1;34m)\x1b[0m",
             Err(error) => matches!(error, ReadlineError::Memory),
         };
         assert!(rt; right);

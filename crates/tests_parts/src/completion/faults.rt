@@ -61,19 +61,6 @@ impl Completer for Stubborn {
     }
 }
 
-/// Whether the outcome is the fault, where there is one, and else Ok.
-fn is_outcome<T>(
-    rt: &impl Abort,
-    alloc: Global,
-    outcome: &Result<T>,
-    fault: Option<Fault>,
-) -> bool {
-    match fault {
-        Some(fault) => fault.is_answer(alloc, outcome).expect(rt, "no fault"),
-        None => outcome.is_ok(),
-    }
-}
-
 /// A line and its cursor, a text that is elected to stand at its start, and the line, its cursor and how many changes
 /// there are then.
 type Put<'t> = (&'t str, usize, &'t str, (&'t str, usize, usize));
@@ -93,16 +80,18 @@ fn asks<C: Completer>(
     }
     let history = broken_history(alloc);
     let outcome = completer.complete(alloc, text, pos, &Context::new(&history));
-    let nothing = match &outcome {
-        Ok((start, candidates)) => *start == 0 && candidates.is_empty(),
-        Err(_) => true,
+    let offers = match faults.0 {
+        Some(fault) => fault.is_answer(alloc, &outcome).expect(rt, "no fault"),
+        None => matches!(&outcome, Ok((0, candidates)) if candidates.is_empty()),
     };
-    let offers = is_outcome(rt, alloc, &outcome, faults.0);
     let mut line = LineBuffer::init(alloc, text, pos).expect(rt, "no fault");
     let mut changes = Changeset::new(alloc);
     let outcome = completer.update(&mut line, 0, elected, &mut changes);
-    let is_so = (line.as_str(), line.pos(), changes.len()) == wanted;
-    nothing && offers && is_so && is_outcome(rt, alloc, &outcome, faults.1)
+    let takes = match faults.1 {
+        Some(fault) => fault.is_answer(alloc, &outcome).expect(rt, "no fault"),
+        None => outcome.is_ok(),
+    };
+    offers && takes && (line.as_str(), line.pos(), changes.len()) == wanted
 }
 
 /// A completer.
@@ -116,29 +105,25 @@ pub(crate) enum Which {
     Stubborn(Option<Fault>, Option<Fault>),
 }
 
-/// Whether a completer does so, as it is and in a box.
-fn asks_boxed<C: Completer + Drop>(
-    rt: &impl Abort,
-    alloc: Global,
-    completer: C,
-    put: Put<'_>,
-    faults: (Option<Fault>, Option<Fault>),
-) -> bool {
-    let holds = asks(rt, alloc, &completer, put, faults);
-    let boxed = Box::new(alloc, completer).expect(rt, "no fault");
-    holds && asks(rt, alloc, &boxed, put, faults)
-}
-
 /// Whether this completer does so.
 pub(super) fn elects(rt: &impl Abort, alloc: Global, which: Which, put: Put<'_>) -> bool {
     let sure = (None, None);
     match which {
-        Which::Unit => asks_boxed(rt, alloc, (), put, sure),
-        Which::Plain => asks_boxed(rt, alloc, Plain, put, sure),
+        Which::Unit => {
+            let boxed = Box::new(alloc, ()).expect(rt, "no fault");
+            asks(rt, alloc, &(), put, sure) && asks(rt, alloc, &boxed, put, sure)
+        }
+        Which::Plain => {
+            let boxed = Box::new(alloc, Plain).expect(rt, "no fault");
+            asks(rt, alloc, &Plain, put, sure) && asks(rt, alloc, &boxed, put, sure)
+        }
         Which::Stubborn(completes, updates) => {
+            let faults = (completes, updates);
             let stubborn = Stubborn { completes, updates };
             let boxed = Box::new(alloc, stubborn).expect(rt, "no fault");
-            asks_boxed(rt, alloc, boxed, put, (completes, updates))
+            let once = asks(rt, alloc, &boxed, put, faults);
+            let twice = Box::new(alloc, boxed).expect(rt, "no fault");
+            once && asks(rt, alloc, &twice, put, faults)
         }
     }
 }

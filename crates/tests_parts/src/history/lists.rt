@@ -49,33 +49,16 @@ fn stepped<H: History>(rt: &impl Abort, alloc: Global, history: &mut H, step: &S
         IgnoreDups(yes) => history.ignore_dups(*yes),
         Clear => history.clear(),
         IgnoreSpace(yes) => return history.ignore_space(*yes),
-        Add(line, taken) => return adds(rt, alloc, history, line, false, *taken),
-        AddOwned(line, taken) => return adds(rt, alloc, history, line, true, *taken),
-        step => return has(rt, alloc, history, step),
+        Add(line, taken) | AddOwned(line, taken) => {
+            let owned = matches!(step, AddOwned(..));
+            let answer = added(alloc, history, line, owned).expect(rt, "no fault");
+            return holds(rt, answer == *taken, line, 0);
+        }
+        Many(lines) => return fills(rt, alloc, history, lines_of(rt, alloc, *lines).as_str()),
+        Has(lines) => return gives(rt, history, lines_of(rt, alloc, *lines).as_str()),
+        _ => return holds(rt, false, "a call of any history", 0),
     };
     outcome.expect(rt, "no fault");
-}
-
-/// A line is added, with this answer.
-fn adds<H: History>(
-    rt: &impl Abort,
-    alloc: Global,
-    history: &mut H,
-    line: &str,
-    owned: bool,
-    taken: bool,
-) {
-    let answer = added(alloc, history, line, owned).expect(rt, "no fault");
-    holds(rt, answer == taken, line, 0);
-}
-
-/// Each of these lines is taken, or is there.
-fn has<H: History>(rt: &impl Abort, alloc: Global, history: &mut H, step: &Step) {
-    match step {
-        Many(lines) => fills(rt, alloc, history, lines_of(rt, alloc, *lines).as_str()),
-        Has(lines) => gives(rt, history, lines_of(rt, alloc, *lines).as_str()),
-        _ => holds(rt, false, "a call of any history", 0),
-    }
 }
 
 /// A call of a history that can be saved.
@@ -273,15 +256,6 @@ pub(super) const LISTS: &[Step] = &[
     Gives(""),
 ];
 
-/// Settings that keep so many lines, and leave out those that they are to.
-fn config_of(rt: &impl Abort, max_len: usize, dups: bool, space: bool) -> Config {
-    let mut config = Config::new(GraphemeClusterMode::Unicode);
-    config.set_max_history_size(max_len).expect(rt, "no fault");
-    config.set_history_ignore_dups(dups).expect(rt, "no fault");
-    config.set_history_ignore_space(space);
-    config
-}
-
 /// Each call of the table is answered so by a history that can be saved, and leaves these lines; and by one in memory
 /// alone, where it has all the calls.
 pub(super) fn are_kept(rt: &impl Abort, alloc: Global, table: &[Step], in_memory: bool) {
@@ -290,7 +264,10 @@ pub(super) fn are_kept(rt: &impl Abort, alloc: Global, table: &[Step], in_memory
     for step in table {
         match step {
             With(max_len, dups, space) => {
-                let config = config_of(rt, *max_len, *dups, *space);
+                let mut config = Config::new(GraphemeClusterMode::Unicode);
+                config.set_max_history_size(*max_len).expect(rt, "no fault");
+                config.set_history_ignore_dups(*dups).expect(rt, "no fault");
+                config.set_history_ignore_space(*space);
                 history = FileHistory::with_config(alloc, &config);
                 other = MemHistory::with_config(alloc, &config);
             }

@@ -2,7 +2,7 @@
 //! looks at what is left, or the call was not reached.
 
 use super::streams::{BROKEN, Stream};
-use super::{added, answer_of, gives, is_saved, keeps};
+use super::{added, answer_of, gives, is_saved};
 use crate::holds;
 use ErrorKind::OutOfMemory;
 use Escapes::{V2, V3};
@@ -16,15 +16,6 @@ use std::process::Abort;
 /// Lines that are all taken, and for which a list grows more than once.
 const LINES: &str = "a|b\n\\\rb|0123456789\n0123456789\n0123456789\n0123456789|c|d|e";
 
-/// Puts a line behind those that are kept, or alone where they are full, with a bar after it.
-fn keep(rt: &impl Abort, kept: &mut String, line: &str, full: bool) {
-    if full {
-        kept.clear();
-    }
-    kept.push_str(line).expect(rt, "no fault");
-    kept.push('|').expect(rt, "no fault");
-}
-
 /// A refused line leaves the list as it was: it does not drop the oldest of a full history, which keeps one line.
 fn adds<H: History>(rt: &impl Abort, alloc: Global, history: &mut H, owned: bool, full: bool) {
     let Ok(mut kept) = String::with_capacity(alloc, 100) else {
@@ -37,7 +28,11 @@ fn adds<H: History>(rt: &impl Abort, alloc: Global, history: &mut H, owned: bool
         let outcome = added(alloc, history, line, owned);
         if let Some(taken) = answer_of(rt, alloc, outcome, OutOfMemory, "") {
             holds(rt, taken, line, 0);
-            keep(rt, &mut kept, line, full);
+            if full {
+                kept.clear();
+            }
+            kept.push_str(line).expect(rt, "no fault");
+            kept.push('|').expect(rt, "no fault");
         }
         gives(rt, history, kept.as_str());
     }
@@ -109,7 +104,8 @@ fn reads(rt: &impl Abort, alloc: Global, written: &Written) {
         .get(count)
         .expect(rt, "no more lines than there are");
     let left = if answer.is_some() { "" } else { appended };
-    let _ = keeps(rt, alloc, &mut history, lines, written.escapes, left);
+    gives(rt, &history, lines);
+    let _ = is_saved(rt, alloc, &mut history, written.escapes, true, left);
 }
 
 /// The lines are there, and are new where the save was refused.
@@ -124,19 +120,8 @@ fn saves(rt: &impl Abort, alloc: Global, written: &Written, append: bool) {
     }
     let saved = is_saved(rt, alloc, &mut history, written.escapes, append, whole);
     let left = if saved { "" } else { all };
-    let _ = keeps(rt, alloc, &mut history, FOUR, written.escapes, left);
-}
-
-/// The line before the fault is there, and is new; none may be where memory ran out.
-fn breaks_off(rt: &impl Abort, alloc: Global) {
-    let mut history = FileHistory::new(alloc);
-    let outcome = history.load_from(Stream::new(alloc, "#V2\na\nb", 7, &BROKEN));
-    if !matches!(&outcome, Err(ReadlineError::Memory)) {
-        assert!(rt; answer_of(rt, alloc, outcome, BROKEN.0, BROKEN.1).is_none());
-    } else if history.is_empty() {
-        return;
-    }
-    let _ = keeps(rt, alloc, &mut history, "a", V2, "a\n");
+    gives(rt, &history, FOUR);
+    let _ = is_saved(rt, alloc, &mut history, written.escapes, true, left);
 }
 
 /// A line of so many characters that a result owns is copied. Returns 1 where an allocation was refused, and else 0.
@@ -162,7 +147,8 @@ fn copies(rt: &impl Abort, alloc: Global, count: usize) -> usize {
     refused
 }
 
-/// Of results each length stands twice, so that one of them is copied.
+/// Of a load that breaks off, the line before the fault is there, and is new; none may be where memory ran out. Of results
+/// each length stands twice, so that one of them is copied.
 #[test]
 fn of_each_call(rt: HostRuntime) {
     let alloc = rt.alloc();
@@ -172,14 +158,25 @@ fn of_each_call(rt: HostRuntime) {
     }
     for written in WRITTEN {
         reads(&rt, alloc, written);
-        for append in [false, true] {
-            saves(&rt, alloc, written, append);
-        }
+        saves(&rt, alloc, written, false);
+        saves(&rt, alloc, written, true);
     }
-    breaks_off(&rt, alloc);
+    let mut history = FileHistory::new(alloc);
+    let outcome = history.load_from(Stream::new(alloc, "#V2\na\nb", 7, &BROKEN));
+    let out_of_memory = matches!(&outcome, Err(ReadlineError::Memory));
+    let (kind, text) = match out_of_memory {
+        true => (OutOfMemory, ""),
+        false => (BROKEN.0, BROKEN.1),
+    };
+    let answer = answer_of(&rt, alloc, outcome, kind, text);
+    holds(&rt, answer.is_none(), "a load breaks off", 0);
+    if !(out_of_memory && history.is_empty()) {
+        gives(&rt, &history, "a");
+        let _ = is_saved(&rt, alloc, &mut history, V2, true, "a\n");
+    }
     let mut refused: usize = 0;
     for count in [0, 1, 400, 5_000, 0, 1, 400, 5_000] {
         refused = refused.saturating_add(copies(&rt, alloc, count));
     }
-    assert!(rt; refused <= 1);
+    holds(&rt, refused <= 1, "copies", refused);
 }

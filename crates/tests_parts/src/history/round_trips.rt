@@ -1,7 +1,7 @@
 //! Lines that are saved and loaded: short ones of the characters that a text writes in ways of their own, long ones, and
 //! many.
 
-use super::Lines::{Cut, Numbered, Pieces, Short, These};
+use super::Lines::{Numbered, Pieces, Short, These};
 use super::{Lines, fills, gives, lines_of, save};
 use crate::holds;
 use Escapes::{V2, V3};
@@ -11,7 +11,7 @@ use std::process::Abort;
 
 /// The escapes, the lines that are saved and the ones appended, how many lines are kept of what is loaded, the length of
 /// the text where it is told, and the lines that are loaded: these and those. None are saved where the text has no header.
-type Trip = (
+pub(super) type Trip = (
     Escapes,
     Option<Lines>,
     Option<Lines>,
@@ -21,39 +21,31 @@ type Trip = (
     Lines,
 );
 
-/// The text of a history of the lines.
-fn text_of(rt: &impl Abort, alloc: Global, trip: &Trip) -> Vec<u8> {
-    let (escapes, saved, appended, _, length, _, _) = *trip;
+/// The lines are loaded from the text of a history that has saved and appended them.
+pub(super) fn come_back(rt: &impl Abort, alloc: Global, trip: &Trip) {
+    let (escapes, saved, appended, limit, length, these, those) = *trip;
     let mut history = FileHistory::new(alloc);
     history.set_max_len(10_000).expect(rt, "no fault");
     let mut text = Vec::new(alloc);
     for (lines, append) in [(saved, false), (appended, true)] {
         if let Some(lines) = lines {
-            let lines = lines_of(rt, alloc, lines);
-            fills(rt, alloc, &mut history, lines.as_str());
+            fills(rt, alloc, &mut history, lines_of(rt, alloc, lines).as_str());
             save(&mut history, escapes, &mut text, append).expect(rt, "no fault");
         }
     }
-    let len = text.len();
-    holds(rt, length.unwrap_or(len) == len, "text", len);
-    text
-}
-
-/// The lines are loaded from their text.
-fn come_back(rt: &impl Abort, alloc: Global, trip: &Trip) {
-    let (_, saved, _, limit, _, these, those) = *trip;
-    let text = text_of(rt, alloc, trip);
     let mut copy = FileHistory::new(alloc);
     copy.set_max_len(limit).expect(rt, "no fault");
     let has_header = copy.load_from(text.as_slice()).expect(rt, "no fault");
-    assert!(rt; has_header == saved.is_some());
+    let len = text.len();
+    let is_whole = length.unwrap_or(len) == len && has_header == saved.is_some();
+    holds(rt, is_whole, "text", len);
     let mut lines = lines_of(rt, alloc, these);
     let others = lines_of(rt, alloc, those);
     lines.push_str(others.as_str()).expect(rt, "no fault");
     gives(rt, &copy, lines.as_str());
 }
 
-const NONE: Lines = These("");
+pub(super) const NONE: Lines = These("");
 
 /// Ten lines of 1,000 bytes each, and one of 20,000.
 const BROAD: Lines = Pieces(
@@ -73,7 +65,7 @@ const MANY: Lines = Numbered(0, 5_000);
 /// The digits of the numbers below 5,000.
 const DIGITS: usize = 10 + 2 * 90 + 3 * 900 + 4 * 4_000;
 
-const TRIPS: &[Trip] = &[
+pub(super) const TRIPS: &[Trip] = &[
     // short lines that are saved, and others that are appended
     (
         V3,
@@ -224,19 +216,3 @@ const TRIPS: &[Trip] = &[
         NONE,
     ),
 ];
-
-/// The lines of each text come back; and each line of up to three of the characters, alone. Without an escape for it,
-/// the carriage return at its end is lost.
-#[test]
-fn come_back_from_their_text(rt: HostRuntime) {
-    for trip in TRIPS {
-        come_back(&rt, rt.alloc(), trip);
-    }
-    for number in 1..400 {
-        let line = Short(number, number.saturating_add(1));
-        for (escapes, loaded) in [(V2, Cut(number)), (V3, line)] {
-            let trip = (escapes, Some(line), None, 100, None, loaded, NONE);
-            come_back(&rt, rt.alloc(), &trip);
-        }
-    }
-}

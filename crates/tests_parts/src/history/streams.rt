@@ -1,8 +1,8 @@
 //! Streams that give and take little at once, that are interrupted, and that fail at each byte, once or from there on: the
 //! error stays what it was, the call is not made again, and the history keeps what is said of a load or a save that failed.
 
-use super::Lines::Pieces;
-use super::{Lines, answer_of, fills, keeps, lines_of, save};
+use super::Lines::{Pieces, These};
+use super::{Lines, answer_of, fills, gives, is_saved, lines_of, save};
 use crate::holds;
 use Escapes::{V2, V3};
 use How::{Always, Full, Interrupted, Once};
@@ -168,18 +168,6 @@ const MANNERS: &[Manner] = &[
     (ErrorKind::Other, "the stream broke", Once),
 ];
 
-/// A history of settled lines, and of others that are new.
-fn history_of(rt: &impl Abort, alloc: Global, settled: &str, new: &str) -> FileHistory {
-    let mut history = FileHistory::new(alloc);
-    if !settled.is_empty() {
-        fills(rt, alloc, &mut history, settled);
-        let saved = history.save_to(&mut Vec::new(alloc), false);
-        saved.expect(rt, "no fault");
-    }
-    fills(rt, alloc, &mut history, new);
-    history
-}
-
 /// A text, the first place and the last one at which its reader fails, the answer, None where it fails, the lines that are
 /// then there, and what is appended of those that are new, with a carriage return escaped.
 type Load = (
@@ -197,12 +185,17 @@ fn reads(rt: &impl Abort, alloc: Global, load: &Load, place: usize, manner: &Man
     let (text, _, _, wanted, lines, appended) = *load;
     let (kind, words, how) = *manner;
     let settled = if matches!(how, Once) { "x|" } else { "" };
-    let mut history = history_of(rt, alloc, settled, "");
+    let mut history = FileHistory::new(alloc);
+    fills(rt, alloc, &mut history, settled);
+    let settling = history.save_to(&mut Vec::new(alloc), false);
+    settling.expect(rt, "no fault");
     let outcome = history.load_from(Stream::new(alloc, text, place, manner));
     let answer = answer_of(rt, alloc, outcome, kind, words);
     holds(rt, answer == wanted, text, place);
     let lines = format!(in alloc; "{settled}{lines}").expect(rt, "no fault");
-    assert!(rt; keeps(rt, alloc, &mut history, lines.as_str(), V3, appended));
+    gives(rt, &history, lines.as_str());
+    let is_new = is_saved(rt, alloc, &mut history, V3, true, appended);
+    holds(rt, is_new, text, place);
 }
 
 const HEADED: &str = "#V2\nab\n\ncd\ne";
@@ -248,93 +241,140 @@ const LOADS: &[Load] = &[
 
 /// The settled lines and the new ones, the escapes, whether the new ones are appended, what is written, and what is
 /// appended of the new ones.
-type Save<'a> = (&'a str, &'a str, Escapes, bool, &'a str, &'a str);
+type Save = (Lines, Lines, Escapes, bool, Lines, Lines);
 
 /// A save answers the fault of its writer, which took all before the place where it fails. After a save that fails all
 /// lines are there, and the new ones are new.
-fn writes(rt: &impl Abort, alloc: Global, case: &Save<'_>, place: usize, manner: &Manner) {
+fn writes(rt: &impl Abort, alloc: Global, case: &Save, place: usize, manner: &Manner) {
     let (settled, new, escapes, append, whole, appended) = *case;
     let (kind, text, _) = *manner;
-    let mut history = history_of(rt, alloc, settled, new);
+    let settled = lines_of(rt, alloc, settled);
+    let new = lines_of(rt, alloc, new);
+    let mut history = FileHistory::new(alloc);
+    fills(rt, alloc, &mut history, settled.as_str());
+    let settling = history.save_to(&mut Vec::new(alloc), false);
+    settling.expect(rt, "no fault");
+    fills(rt, alloc, &mut history, new.as_str());
     let mut out = Stream::new(alloc, "", place, manner);
     let outcome = save(&mut history, escapes, &mut out, append);
     let done = answer_of(rt, alloc, outcome, kind, text).is_some();
+    let whole = lines_of(rt, alloc, whole);
     let taken = whole.as_bytes().get(..place.min(whole.len()));
     let is_taken = taken == Some(out.taken.as_slice());
-    holds(rt, is_taken && done == (place > whole.len()), whole, place);
+    holds(
+        rt,
+        is_taken && done == (place > whole.len()),
+        whole.as_str(),
+        place,
+    );
     let lines = format!(in alloc; "{settled}{new}").expect(rt, "no fault");
-    let left = if done { "" } else { appended };
-    assert!(rt; keeps(rt, alloc, &mut history, lines.as_str(), escapes, left));
+    gives(rt, &history, lines.as_str());
+    let appended = lines_of(rt, alloc, appended);
+    let left = if done { String::new(alloc) } else { appended };
+    let is_new = is_saved(rt, alloc, &mut history, escapes, true, left.as_str());
+    holds(rt, is_new, whole.as_str(), place);
 }
 
-const SAVES: &[Save<'static>] = &[
+const SAVES: &[Save] = &[
     (
-        "x|",
-        "a\nb\rc|",
+        These("x|"),
+        These("a\nb\rc|"),
         V2,
         false,
-        "#V2\nx\na\\nb\rc\n",
-        "a\\nb\rc\n",
+        These("#V2\nx\na\\nb\rc\n"),
+        These("a\\nb\rc\n"),
     ),
-    ("x|", "a\nb\rc|", V2, true, "a\\nb\rc\n", "a\\nb\rc\n"),
     (
-        "x|",
-        "a\nb\rc|",
-        V3,
-        false,
-        "#V3\nx\na\\nb\\rc\n",
-        "a\\nb\\rc\n",
-    ),
-    ("x|", "a\nb\rc|", V3, true, "a\\nb\\rc\n", "a\\nb\\rc\n"),
-    (
-        "",
-        "a\nb\rc|d|",
+        These("x|"),
+        These("a\nb\rc|"),
         V2,
-        false,
-        "#V2\na\\nb\rc\nd\n",
-        "a\\nb\rc\nd\n",
+        true,
+        These("a\\nb\rc\n"),
+        These("a\\nb\rc\n"),
     ),
-    ("", "a\nb\rc|d|", V2, true, "a\\nb\rc\nd\n", "a\\nb\rc\nd\n"),
     (
-        "",
-        "a\nb\rc|d|",
+        These("x|"),
+        These("a\nb\rc|"),
         V3,
         false,
-        "#V3\na\\nb\\rc\nd\n",
-        "a\\nb\\rc\nd\n",
+        These("#V3\nx\na\\nb\\rc\n"),
+        These("a\\nb\\rc\n"),
     ),
     (
-        "",
-        "a\nb\rc|d|",
+        These("x|"),
+        These("a\nb\rc|"),
         V3,
         true,
-        "a\\nb\\rc\nd\n",
-        "a\\nb\\rc\nd\n",
+        These("a\\nb\\rc\n"),
+        These("a\\nb\\rc\n"),
+    ),
+    (
+        These(""),
+        These("a\nb\rc|d|"),
+        V2,
+        false,
+        These("#V2\na\\nb\rc\nd\n"),
+        These("a\\nb\rc\nd\n"),
+    ),
+    (
+        These(""),
+        These("a\nb\rc|d|"),
+        V2,
+        true,
+        These("a\\nb\rc\nd\n"),
+        These("a\\nb\rc\nd\n"),
+    ),
+    (
+        These(""),
+        These("a\nb\rc|d|"),
+        V3,
+        false,
+        These("#V3\na\\nb\\rc\nd\n"),
+        These("a\\nb\\rc\nd\n"),
+    ),
+    (
+        These(""),
+        These("a\nb\rc|d|"),
+        V3,
+        true,
+        These("a\\nb\\rc\nd\n"),
+        These("a\\nb\\rc\nd\n"),
     ),
     // where no line is new, an appended save still flushes
-    ("x|", "", V2, true, "", ""),
-    ("x|", "", V3, true, "", ""),
+    (These("x|"), These(""), V2, true, These(""), These("")),
+    (These("x|"), These(""), V3, true, These(""), These("")),
 ];
 
 /// Two lines of 9,000 bytes.
 const MUCH: Lines = Pieces("9000*a+1*|+9000*b+1*|");
 
-const TEXT: Lines = Pieces("1*#V2\na+8999*a+1*\n+9000*b+1*\n");
-
-const TEXT_V3: Lines = Pieces("1*#V3\na+8999*a+1*\n+9000*b+1*\n");
+/// What is appended of them.
+const ADDED: Lines = Pieces("9000*a+1*\n+9000*b+1*\n");
 
 /// Two long lines are written one after the other.
-fn writes_much(rt: &impl Abort, alloc: Global, escapes: Escapes, append: bool, place: usize) {
-    let lines = lines_of(rt, alloc, MUCH);
-    let text = match escapes {
-        V2 => lines_of(rt, alloc, TEXT),
-        V3 => lines_of(rt, alloc, TEXT_V3),
-    };
-    let appended = text.as_str().get(4..).expect(rt, "a header");
-    let whole = if append { appended } else { text.as_str() };
-    let case = ("", lines.as_str(), escapes, append, whole, appended);
-    writes(rt, alloc, &case, place, &GONE);
-}
+const LONG_SAVES: &[Save] = &[
+    (
+        These(""),
+        MUCH,
+        V2,
+        false,
+        Pieces("1*#V2\n+9000*a+1*\n+9000*b+1*\n"),
+        ADDED,
+    ),
+    (These(""), MUCH, V2, true, ADDED, ADDED),
+    (
+        These(""),
+        MUCH,
+        V3,
+        false,
+        Pieces("1*#V3\n+9000*a+1*\n+9000*b+1*\n"),
+        ADDED,
+    ),
+    (These(""), MUCH, V3, true, ADDED, ADDED),
+];
+
+/// Places in the texts of long lines.
+const PLACES: &[usize] = &[0, 1, 8_191, 8_192, 8_193, 9_001, 9_500, 18_001, WHOLE];
 
 /// The reader fails at each byte, and not at all; the writer at each byte, at the flush after the last one, and not at
 /// all.
@@ -347,14 +387,15 @@ fn that_fail(rt: HostRuntime) {
             }
         }
         for case in SAVES {
-            for place in 0..case.4.len().saturating_add(2) {
+            let length = lines_of(&rt, rt.alloc(), case.4).len();
+            for place in 0..length.saturating_add(2) {
                 writes(&rt, rt.alloc(), case, place, manner);
             }
         }
     }
-    for place in [0, 1, 8_191, 8_192, 8_193, 9_001, 9_500, 18_001, WHOLE] {
-        for (escapes, append) in [(V2, false), (V2, true), (V3, false), (V3, true)] {
-            writes_much(&rt, rt.alloc(), escapes, append, place);
+    for case in LONG_SAVES {
+        for place in PLACES {
+            writes(&rt, rt.alloc(), case, *place, &GONE);
         }
     }
 }

@@ -1,7 +1,7 @@
 //! A history that fails in one look-up: the error is handed on, and no other look-up is made, also none whose answer is
 //! dropped.
 
-use super::{Hinted, LINES, hints_from};
+use super::{Hinted, LINES, hints};
 use line_parts::{History, HistoryHinter, SearchDirection};
 use std::alloc::Global;
 use std::process::Abort;
@@ -19,15 +19,18 @@ pub(crate) type Case = (
 
 /// Whether the hint comes, or the fault where it is to.
 pub(crate) fn asks(rt: &impl Abort, alloc: Global, case: &Case, fault: Fault) -> bool {
-    let ((lines, index), (number, failing), hinted, faulty) = *case;
+    let (lines, (number, failing), hinted, faulty) = *case;
     let mut history = Shelf::new(alloc, number);
-    for line in lines.split('|') {
-        let _ = history.add(line).expect(rt, "no fault");
-    }
     if let Some(failing) = failing {
-        history.fail_in(failing, fault);
+        history.failing = Some((failing, fault));
     }
-    let outcome = hints_from(alloc, &HistoryHinter::default(), &history, index, hinted);
+    let outcome = hints(
+        alloc,
+        &HistoryHinter::default(),
+        &mut history,
+        lines,
+        hinted,
+    );
     let fails_next = number == 0 || history.get(0, SearchDirection::Reverse).is_err();
     let right = if faulty {
         fault.is_answer(alloc, &outcome)

@@ -6,18 +6,18 @@ use line_config::Result;
 use line_parts::{Context, Helper, History, Parties};
 use std::alloc::Global;
 use std::process::Abort;
-use tests_parties::advisor::{Advisor, Verdict};
+use tests_parties::advisor::Verdict;
 use tests_parties::fault::Fault;
 
 /// The right answer: a hint, if there is one, or the name and message of a validation result.
 #[derive(Clone, Copy)]
-pub(crate) enum Answer {
+pub(super) enum Answer {
     Hint(Option<&'static str>),
     Verdict(&'static str, &'static str),
 }
 
 /// Whether a line with the cursor at its end is answered so.
-fn answers<H: Helper, S: History>(
+fn answered<H: Helper, S: History>(
     parties: &Parties<'_, H, S>,
     alloc: Global,
     text: &str,
@@ -39,45 +39,29 @@ fn answers<H: Helper, S: History>(
     }
 }
 
-/// Whether there is no hint and the line is valid; the history, of which each call fails, is not asked.
-pub(super) fn asks_nothing(
+/// Whether an editor gets this answer of a helper, or of none, about a text; or the fault where there is one, and then the
+/// answer. No history is asked, so it does not matter that this one fails in each call.
+pub(super) fn answers<H: Helper>(
     rt: &impl Abort,
     alloc: Global,
-    helper: Option<&mut ()>,
+    helper: Option<&mut H>,
     text: &str,
+    wanted: Answer,
+    fault: Option<Fault>,
 ) -> bool {
     let history = broken_history(alloc);
     let parties = Parties::new(helper, Context::new(&history));
-    let hint = answers(&parties, alloc, text, Answer::Hint(None));
-    let verdict = answers(&parties, alloc, text, Answer::Verdict("valid", ""));
-    hint.expect(rt, "no fault") && verdict.expect(rt, "no fault")
+    let outcome = answered(&parties, alloc, text, wanted);
+    let Some(fault) = fault else {
+        return outcome.expect(rt, "no fault");
+    };
+    let again = answered(&parties, alloc, text, wanted).expect(rt, "no fault");
+    again && fault.is_answer(alloc, &outcome).expect(rt, "no fault")
 }
 
 /// The hint and the validation result of a helper, the number of its answer that fails, the right answer, and whether
 /// there is the fault instead.
 pub(super) type Case = ((Option<&'static str>, Verdict), u64, Answer, bool);
-
-/// Whether there is the answer, or the fault where it is wanted, and then the answer. The helper asks no history, so it
-/// does not matter that this one fails.
-pub(crate) fn helped(
-    rt: &impl Abort,
-    alloc: Global,
-    case: &Case,
-    text: &str,
-    fault: Fault,
-) -> bool {
-    let ((hint, verdict), failing, wanted, faulty) = *case;
-    let mut advisor = Advisor::new(hint, verdict, None);
-    advisor.fail_by(failing, fault);
-    let history = broken_history(alloc);
-    let parties = Parties::new(Some(&mut advisor), Context::new(&history));
-    let outcome = answers(&parties, alloc, text, wanted);
-    if !faulty {
-        return outcome.expect(rt, "no fault");
-    }
-    let again = answers(&parties, alloc, text, wanted).expect(rt, "no fault");
-    again && fault.is_answer(alloc, &outcome).expect(rt, "no fault")
-}
 
 /// A hint, and a line that is invalid.
 const NO: (Option<&str>, Verdict) = (Some("!"), (true, false, Some("no")));

@@ -85,27 +85,25 @@ const TEXTS: &[(&str, Asked)] = &[
     ("", Lone('\u{1f3fb}', None, false)),
 ];
 
-/// Whether this is the answer.
-fn is_answer(text: &str, asked: &Asked) -> bool {
-    match asked {
-        First(place) => first_parting(text) == *place,
-        Last(end, place) => text.is_char_boundary(*end) && last_parting(text, *end) == *place,
-        Printable(printable, plain) => {
-            is_printable_text(text) == *printable && is_plain_text(text) == *plain
-        }
-        Widths(whole, characters, pieces) => {
-            Unicode.width(text) == *whole
-                && WcWidth.width(text) == *characters
-                && NoZwj.width(text) == *pieces
-                && Layout::new(NoZwj).width(text) == *pieces
-        }
-        Lone(c, width, printable) => lone_width(*c) == *width && is_printable(*c) == *printable,
-    }
-}
-
 #[test]
 fn of_texts(rt: HostRuntime) {
     for (index, (text, asked)) in TEXTS.iter().enumerate() {
-        holds(&rt, is_answer(text, asked), text, index);
+        let is_answer = match asked {
+            First(place) => first_parting(text) == *place,
+            Last(end, place) => text.is_char_boundary(*end) && last_parting(text, *end) == *place,
+            Printable(printable, plain) => {
+                is_printable_text(text) == *printable && is_plain_text(text) == *plain
+            }
+            Widths(whole, characters, pieces) => {
+                Unicode.width(text) == *whole
+                    && WcWidth.width(text) == *characters
+                    && NoZwj.width(text) == *pieces
+                    && Layout::new(NoZwj).width(text) == *pieces
+            }
+            Lone(c, width, printable) => {
+                lone_width(*c) == *width && is_printable(*c) == *printable
+            }
+        };
+        holds(&rt, is_answer, text, index);
     }
 }

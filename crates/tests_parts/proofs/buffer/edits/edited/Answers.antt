@@ -1,4 +1,4 @@
-use Rattle.tests_base.proofs.buffer.edits.edited.Goals as goal
+use Rattle.tests_parts.proofs.buffer.edits.edited.Goals as goal
 
 pub returns-in-End : goal.returns-in-End
 returns-in-End g c =

@@ -1,7 +1,7 @@
 use Rattle.std.proofs.Common.{◌∙◌}
-use Rattle.tests_base.proofs.ToldLemmas.{none_tell, same_tell}
-use Rattle.tests_base.proofs.buffer.refusals.of_calls.Goals as goal
-use Rattle.tests_base.proofs.buffer.refusals.of_calls.Goals.{then-matches, else-matches, then-not-refused, else-not-refused}
+use Rattle.tests_parts.proofs.ToldLemmas.{none_tell, same_tell}
+use Rattle.tests_parts.proofs.buffer.refusals.of_calls.Goals as goal
+use Rattle.tests_parts.proofs.buffer.refusals.of_calls.Goals.{then-matches, else-matches, then-not-refused, else-not-refused}
 
 pub is_refused-refused-requires : goal.is_refused-refused-requires
 is_refused-refused-requires g c = elim c.if-matches.branch [

@@ -1,12 +1,9 @@
 //! The kill ring: calls on a ring, one after another, and what they give.
 
 use self::Act::*;
-use super::text_of;
 use crate::holds;
 use line_buffer::KillRing;
 use line_buffer::Mode::{self, *};
-use std::alloc::Global;
-use std::process::Abort;
 
 /// A call on the ring.
 enum Act {
@@ -26,28 +23,6 @@ enum Act {
     Pop(usize, &'static str),
     /// A yank-pop gives nothing.
     NoPop,
-}
-
-/// Makes the call. Whether it gives what is wanted.
-fn acted(rt: &impl Abort, alloc: Global, ring: &mut KillRing, act: &Act) -> bool {
-    match act {
-        Ring(size) => *ring = KillRing::new(alloc, *size),
-        Kill(text, mode) => ring.kill(text, *mode).expect(rt, "no fault"),
-        Much(mode) => {
-            let text = text_of(rt, alloc, "日 ", 20_000);
-            ring.kill(text.as_str(), *mode).expect(rt, "no fault");
-        }
-        Apart(text) => {
-            ring.kill(text, Append).expect(rt, "no fault");
-            ring.reset();
-        }
-        Reset => ring.reset(),
-        Yank(text) => return ring.yank() == Some(*text),
-        YankLength(len) => return matches!(ring.yank(), Some(text) if text.len() == *len),
-        Pop(len, text) => return ring.yank_pop() == Some((*len, *text)),
-        NoPop => return ring.yank_pop() == None,
-    }
-    true
 }
 
 /// How often a call is made, and the call.
@@ -202,7 +177,25 @@ fn yanks_turn_the_ring_back(rt: HostRuntime) {
     let mut ring = KillRing::new(rt.alloc(), 0);
     for (index, (times, act)) in ACTS.iter().enumerate() {
         for _ in 0..*times {
-            holds(&rt, acted(&rt, rt.alloc(), &mut ring, act), "row", index);
+            let mut right = true;
+            match act {
+                Ring(size) => ring = KillRing::new(rt.alloc(), *size),
+                Kill(text, mode) => ring.kill(text, *mode).expect(&rt, "no fault"),
+                Much(mode) => {
+                    let text = "日 ".repeat(rt.alloc(), 20_000).expect(&rt, "no fault");
+                    ring.kill(text.as_str(), *mode).expect(&rt, "no fault");
+                }
+                Apart(text) => {
+                    ring.kill(text, Append).expect(&rt, "no fault");
+                    ring.reset();
+                }
+                Reset => ring.reset(),
+                Yank(text) => right = ring.yank() == Some(*text),
+                YankLength(len) => right = matches!(ring.yank(), Some(text) if text.len() == *len),
+                Pop(len, text) => right = ring.yank_pop() == Some((*len, *text)),
+                NoPop => right = ring.yank_pop() == None,
+            }
+            holds(&rt, right, "row", index);
         }
     }
 }

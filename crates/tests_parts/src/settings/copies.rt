@@ -1,8 +1,5 @@
 //! Configurations that differ in one setting, and their copies.
 
-use super::settings;
-use crate::holds;
-use crate::values::compare;
 use line_buffer::GraphemeClusterMode;
 use line_config::{
     Behavior, BellStyle, Builder, ColorMode, CompletionType, Config, Configurer, EditMode,
@@ -36,7 +33,7 @@ pub(super) enum Change {
 }
 
 /// No two of these give the same configuration.
-const CHANGES: &[Change] = &[
+pub(super) const CHANGES: &[Change] = &[
     Change::Nothing,
     Change::MaxHistorySize,
     Change::HistoryDuplicates,
@@ -87,36 +84,5 @@ pub(super) fn changed(rt: &impl Abort, builder: Builder, change: &Change) -> Bui
             builder
         }
         Change::Signals => builder.enable_signals(true),
-    }
-}
-
-/// A builder after one call.
-fn built(rt: &impl Abort, change: &Change) -> Builder {
-    changed(rt, Config::builder(GraphemeClusterMode::Unicode), change)
-}
-
-/// The clone of a configuration, and that of a builder, has what was set, and leaves its source as it was.
-fn copies(rt: &impl Abort, change: &Change) -> bool {
-    let wanted = settings(&built(rt, change).build());
-    let builder = built(rt, change);
-    let copy = builder.clone().expect(rt, "no fault").build();
-    let config = builder.build();
-    let clone = config.clone().expect(rt, "no fault");
-    let copied = settings(&copy) == wanted && settings(&clone) == wanted;
-    copied && settings(&config) == wanted
-}
-
-#[test]
-fn no_two_are_equal(rt: HostRuntime) {
-    let changes = CHANGES;
-    for (index, one) in changes.iter().enumerate() {
-        let mut apart = copies(&rt, one);
-        for (place, other) in changes.iter().enumerate() {
-            let (first, second) = (built(&rt, one).build(), built(&rt, other).build());
-            let same = index == place;
-            let found = (settings(&first) == settings(&second)) == same;
-            apart = apart && found && compare(&first, &second, same);
-        }
-        holds(&rt, apart, "setting", index);
     }
 }

@@ -1,13 +1,13 @@
 //! Moves of the cursor.
 
 use self::Move::*;
-use super::{FAMILY, line_at};
+use super::FAMILY;
 use crate::holds;
 use line_buffer::At::{self, *};
 use line_buffer::Word::{self, *};
 use line_buffer::{CharSearch as Search, GraphemeClusterMode, Layout, LineBuffer, RepeatCount};
 
-/// A call that moves the cursor.
+/// A call that moves the cursor. It says whether it finds a place.
 enum Move {
     Forward(RepeatCount),
     Backward(RepeatCount),
@@ -23,29 +23,6 @@ enum Move {
     /// No move: the places one cluster on and back, whether the cursor is at the end, and whether only white space
     /// stands from it on.
     Stands(Option<usize>, Option<usize>, bool, bool),
-}
-
-/// Makes the call, on a screen whose prompt takes two columns. Whether the cursor finds a place, or stands so.
-fn moved(line: &mut LineBuffer, step: &Move) -> bool {
-    let mut layout = Layout::new(GraphemeClusterMode::Unicode);
-    layout.prompt_size.col = 2;
-    match step {
-        Forward(n) => line.move_forward(*n),
-        Backward(n) => line.move_backward(*n),
-        Home => line.move_home(),
-        End => line.move_end(),
-        BufferStart => line.move_buffer_start(),
-        BufferEnd => line.move_buffer_end(),
-        NextWord(at, word, n) => line.move_to_next_word(*at, *word, *n),
-        PrevWord(word, n) => line.move_to_prev_word(*word, *n),
-        ToChar(search, n) => line.move_to(*search, *n),
-        LineUp(n) => line.move_to_line_up(*n, &layout),
-        LineDown(n) => line.move_to_line_down(*n, &layout),
-        Stands(next, prev, at_end, white) => {
-            (line.next_pos(1), line.prev_pos(1)) == (*next, *prev)
-                && (line.is_cursor_at_end(), line.is_end_of_input()) == (*at_end, *white)
-        }
-    }
 }
 
 /// A text, the cursor, a call, and the place that it finds.
@@ -313,13 +290,33 @@ const MOVES: &[Case] = &[
     (" a ", 0, Stands(Some(1), None, false, false), Some(0)),
 ];
 
+/// The calls are made on a screen whose prompt takes two columns.
 #[test]
 fn of_the_cursor(rt: HostRuntime) {
+    let mut layout = Layout::new(GraphemeClusterMode::Unicode);
+    layout.prompt_size.col = 2;
     for (index, (text, pos, step, place)) in MOVES.iter().enumerate() {
-        let mut line = line_at(&rt, rt.alloc(), text, *pos);
-        let found = moved(&mut line, step) == place.is_some();
-        let stands = line.pos() == place.unwrap_or(*pos);
+        assert!(&rt; text.is_char_boundary(*pos), "{pos} in {text:?}");
+        let mut line = LineBuffer::init(rt.alloc(), text, *pos).expect(&rt, "no fault");
+        let found = match step {
+            Forward(n) => line.move_forward(*n),
+            Backward(n) => line.move_backward(*n),
+            Home => line.move_home(),
+            End => line.move_end(),
+            BufferStart => line.move_buffer_start(),
+            BufferEnd => line.move_buffer_end(),
+            NextWord(at, word, n) => line.move_to_next_word(*at, *word, *n),
+            PrevWord(word, n) => line.move_to_prev_word(*word, *n),
+            ToChar(search, n) => line.move_to(*search, *n),
+            LineUp(n) => line.move_to_line_up(*n, &layout),
+            LineDown(n) => line.move_to_line_down(*n, &layout),
+            Stands(next, prev, at_end, white) => {
+                (line.next_pos(1), line.prev_pos(1)) == (*next, *prev)
+                    && (line.is_cursor_at_end(), line.is_end_of_input()) == (*at_end, *white)
+            }
+        };
+        let stands = found == place.is_some() && line.pos() == place.unwrap_or(*pos);
         let whole = line.is_empty() == text.is_empty() && line.len() == text.len();
-        holds(&rt, found && stands && whole, text, index);
+        holds(&rt, stands && whole, text, index);
     }
 }

@@ -10,7 +10,7 @@ use line_config::{
     Behavior, BellStyle, Builder, ColorMode, CompletionType, Config, Configurer, EditMode,
     HistoryDuplicates, Prompt, ReadlineError,
 };
-use std::alloc::{AllocError, AllocFailed, Global};
+use std::alloc::{AllocError, AllocFailed};
 use std::fmt;
 use std::io::{self, ErrorKind};
 use std::process::Abort;
@@ -309,8 +309,10 @@ const HOLDERS: &[Holder] = &[
     ),
 ];
 
+/// What was set is read back. Of the configurations with one change each equals itself alone, built anew; its clone, and that
+/// of its builder, has what was set, and leaves its source as it was.
 #[test]
-fn are_read_back(rt: HostRuntime) {
+fn are_read_back_and_copied(rt: HostRuntime) {
     for (index, (how, value, shown, timeout, wanted)) in HOLDERS.iter().enumerate() {
         let config = config_by(&rt, how);
         let again = config == config_by(&rt, how);
@@ -320,6 +322,23 @@ fn are_read_back(rt: HostRuntime) {
             None => true,
         };
         holds(&rt, again && read && all, "row", index);
+    }
+    let changes = copies::CHANGES;
+    for (index, one) in changes.iter().enumerate() {
+        let builder = changed(&rt, Config::builder(GraphemeClusterMode::Unicode), one);
+        let copy = builder.clone().expect(&rt, "no fault").build();
+        let config = builder.build();
+        let clone = config.clone().expect(&rt, "no fault");
+        let read = settings(&config);
+        let mut apart = settings(&copy) == read && settings(&clone) == read;
+        for (place, other) in changes.iter().enumerate() {
+            let builder = changed(&rt, Config::builder(GraphemeClusterMode::Unicode), other);
+            let second = builder.build();
+            let same = index == place;
+            apart = apart && (read == settings(&second)) == same;
+            apart = apart && (config == second) == same && (config != second) != same;
+        }
+        holds(&rt, apart, "setting", index);
     }
 }
 
@@ -388,36 +407,35 @@ const ERRORS: &[Error] = &[
     (Cause::OutOfMemory, Some("out of memory"), None, None),
 ];
 
-/// The error is told so.
-fn is_told(rt: &impl Abort, alloc: Global, error: &ReadlineError, row: &Error) -> bool {
-    let (_, text, name, kind) = row;
-    let shown = error.to_string(alloc).expect(rt, "no fault");
-    let named = debug_text(rt, alloc, error);
-    let found = match error {
-        ReadlineError::Io(cause) => Some(cause.kind()),
-        _ => None,
-    };
-    let is_shown = shown.as_str() == text.unwrap_or(shown.as_str());
-    is_shown && named.as_str() == name.unwrap_or(named.as_str()) && found == *kind
-}
-
-fn forms_are<P: Prompt>(prompt: &P, raw: &str, styled: &str) -> bool {
-    prompt.raw() == raw && prompt.styled() == styled
-}
-
 /// Errors are told by their cause; of a prompt the raw form comes first.
 #[test]
 fn errors_and_prompts(rt: HostRuntime) {
-    for (index, row) in ERRORS.iter().enumerate() {
-        let error = error_of(&row.0);
-        holds(&rt, is_told(&rt, rt.alloc(), &error, row), "row", index);
+    for (index, (cause, text, name, kind)) in ERRORS.iter().enumerate() {
+        let error = error_of(cause);
+        let shown = error.to_string(rt.alloc()).expect(&rt, "no fault");
+        let found = match &error {
+            ReadlineError::Io(cause) => Some(cause.kind()),
+            _ => None,
+        };
+        let named = debug_text(&rt, rt.alloc(), error);
+        let is_shown = shown.as_str() == text.unwrap_or(shown.as_str());
+        let is_named = named.as_str() == name.unwrap_or(named.as_str());
+        holds(&rt, is_shown && is_named && found == *kind, "row", index);
     }
     let shown = OutOfMemory.to_string(rt.alloc()).expect(&rt, "no fault");
-    assert!(&rt; shown.as_str() == "out of memory");
-    let plain = forms_are(&"> ", "> ", "> ") && forms_are(&("> ", "styled"), "> ", "styled");
+    holds(&rt, shown.as_str() == "out of memory", "error", 0);
+    let plain = ("> ", ("> ", "styled"));
+    let is_plain = (plain.0.raw(), plain.0.styled()) == ("> ", "> ");
+    let is_styled = (plain.1.raw(), plain.1.styled()) == ("> ", "styled");
     let raw = String::from_str(rt.alloc(), "> ").expect(&rt, "no fault");
-    let owned = forms_are(&raw, "> ", "> ");
+    let is_owned = (raw.raw(), raw.styled()) == ("> ", "> ");
     let styled = String::from_str(rt.alloc(), "\x1b[1m> \x1b[0m").expect(&rt, "no fault");
-    let both = forms_are(&(raw, styled), "> ", "\x1b[1m> \x1b[0m");
-    assert!(rt; plain && owned && both);
+    let both = (raw, styled);
+    let are_owned = (both.raw(), both.styled()) == ("> ", "\x1b[1m> \x1b[0m");
+    holds(
+        &rt,
+        is_plain && is_styled && is_owned && are_owned,
+        "prompts",
+        0,
+    );
 }

@@ -1,5 +1,5 @@
 use Rattle.line_buffer.specs.Undo.{Tells}
-use Rattle.tests_base.proofs.buffer.edits.leave_a_line_and_its_changes.Given as goal
+use Rattle.tests_parts.proofs.buffer.edits.leave_a_line_and_its_changes.Given as goal
 
 -- the changes tell of the line
 abbrev pub invariant-loop-table : goal.invariant-loop-table

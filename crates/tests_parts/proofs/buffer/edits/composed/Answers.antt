@@ -1,4 +1,4 @@
-use Rattle.tests_base.proofs.buffer.edits.composed.Goals as goal
+use Rattle.tests_parts.proofs.buffer.edits.composed.Goals as goal
 
 -- the changes tell of the line after the begin, after the insert, and after the end
 pub returns-in-Group : goal.returns-in-Group

@@ -1,5 +1,5 @@
 use Rattle.line_buffer.specs.Undo.{Tells}
-use Rattle.tests_base.proofs.buffer.refusals.of_calls.Given as goal
+use Rattle.tests_parts.proofs.buffer.refusals.of_calls.Given as goal
 
 -- the changes tell of the line
 abbrev pub invariant-loop-row : goal.invariant-loop-row

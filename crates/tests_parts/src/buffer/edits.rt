@@ -8,7 +8,7 @@ use self::Line::*;
 use self::Wanted::*;
 use super::kills::{Gone, is_killed};
 use super::texts::{Given, is_given};
-use super::{FAMILY, indents, kills, large, line_at, text_of, texts, undo};
+use super::{FAMILY, indents, kills, large, texts, undo};
 use crate::holds;
 use line_buffer::WordAction::*;
 use line_buffer::{
@@ -146,7 +146,7 @@ fn composed(
     let place = match step {
         Text(call, text) => return handed(rt, line, changes, call, text),
         Much(call) => {
-            let text = text_of(rt, alloc, "日 ", 1_000);
+            let text = "日 ".repeat(alloc, 1_000).expect(rt, "no fault");
             return handed(rt, line, changes, call, text.as_str());
         }
         Written(c, n, place) => {
@@ -220,14 +220,14 @@ fn leaves(
     let (start, step, wanted) = row;
     let mut times = 1;
     if !matches!(start, Then) {
-        *line = match start {
-            On(text, pos) => line_at(rt, alloc, text, *pos),
-            Of(text, count, pos) => {
-                let text = text_of(rt, alloc, text, *count);
-                line_at(rt, alloc, text.as_str(), *pos)
-            }
-            _ => LineBuffer::new(alloc),
+        let (text, count, pos) = match start {
+            On(text, pos) => (*text, 1, *pos),
+            Of(text, count, pos) => (*text, *count, *pos),
+            _ => ("", 0, 0),
         };
+        let text = text.repeat(alloc, count).expect(rt, "no fault");
+        assert!(rt; text.as_str().is_char_boundary(pos), "{pos} in {text:?}");
+        *line = LineBuffer::init(alloc, text.as_str(), pos).expect(rt, "no fault");
         *changes = Changeset::new(alloc);
         *ring = KillRing::new(alloc, 2);
     }
