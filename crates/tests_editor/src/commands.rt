@@ -4,11 +4,8 @@
 use crate::holds;
 use line_buffer::{GraphemeClusterMode, KillRing, Unit};
 use line_config::{Config, Prompt, ReadlineError, Result};
-use line_editor::Bindings;
-use line_editor::command::execute;
 use line_editor::edit::State;
 use line_editor::input_state::InputState;
-use line_keys::cmd::Cmd;
 use line_keys::refresher::Refresher;
 use line_parts::{Context, History};
 use std::alloc::Global;
@@ -17,8 +14,7 @@ use std::process::Abort;
 use tests_parties::advisor::Advisor;
 use tests_parties::shelf::Shelf;
 use tests_steps::calls::{Editor, executed, letters};
-use tests_steps::fixed::Fixed;
-use tests_steps::recorder::Recorder;
+use tests_steps::recorder::{Fixed, Recorder};
 
 mod large;
 mod refusals;
@@ -28,14 +24,13 @@ fn does(
     rt: &impl Abort,
     alloc: Global,
     state: &mut Editor<'_, '_>,
+    input: &InputState<'_>,
     kills: &mut KillRing,
     steps: &str,
 ) -> Result<()> {
     let config = Config::new(GraphemeClusterMode::Unicode);
-    let bindings = Bindings::new(alloc);
-    let input = InputState::new(&config, &bindings);
     for step in steps.split("; ") {
-        match executed(alloc, state, &input, kills, &config, step) {
+        match executed(alloc, state, input, kills, &config, step) {
             Some(Ok(_) | Err(ReadlineError::Interrupted | ReadlineError::Eof)) => {}
             Some(Err(error)) => return Err(error),
             None => panic!(rt; "no such step in {steps}"),
@@ -58,12 +53,10 @@ fn on_the_last_row(rt: HostRuntime) {
         prompt.push('\n').expect(&rt, "no fault");
     }
     for (columns, typed, calls, column) in ON_THE_LAST_ROW {
-        let mut screen = Fixed {
-            screen: Recorder::new(alloc, (*columns).max(1), false, 0),
-        };
+        let mut screen = Recorder::new(alloc, (*columns).max(1), false, 0);
         let history = Shelf::new(alloc, 0);
         let context = Context::new(&history);
-        let mut state: State<'_, '_, Fixed, Advisor, String, Shelf> = State::new(
+        let mut state: State<'_, '_, Recorder<Fixed>, Advisor, String, Shelf> = State::new(
             alloc,
             &mut screen,
             &prompt,
@@ -75,7 +68,7 @@ fn on_the_last_row(rt: HostRuntime) {
             state.edit_insert(c, 1).expect(&rt, "no fault");
         }
         let cursor = state.layout().cursor;
-        let letters = letters(alloc, state.out().screen.log(), 1).expect(&rt, "no fault");
+        let letters = letters(alloc, state.out().log(), 1).expect(&rt, "no fault");
         let is_so = (cursor.row, cursor.col, letters.as_str()) == (65535, *column, *calls);
         holds(&rt, is_so, typed, usize::from(cursor.col));
     }
@@ -87,10 +80,6 @@ const PIECES: &[&str] = &["State", "\"日本\"", "pos: 3", "history_index: 2", "
 #[test]
 fn is_written(rt: HostRuntime) {
     let alloc = rt.alloc();
-    let prompt = (
-        String::from_str(alloc, "> ").expect(&rt, "no fault"),
-        String::from_str(alloc, "> ").expect(&rt, "no fault"),
-    );
     let mut history = Shelf::new(alloc, 0);
     let _ = history.add("one").expect(&rt, "no fault");
     let _ = history.add("two").expect(&rt, "no fault");
@@ -98,10 +87,10 @@ fn is_written(rt: HostRuntime) {
     let context = Context::new(&history);
     let text = "日本";
     assert!(rt; text.is_char_boundary(3));
-    let state: Editor<'_, '_> = State::with_line(
+    let state: State<'_, '_, Recorder, Advisor, &str, Shelf> = State::with_line(
         alloc,
         &mut screen,
-        &prompt,
+        &"> ",
         None,
         context,
         text,

@@ -13,8 +13,8 @@ ghost use Rattle.line_keys.specs.declared.refresher.InputMode.TheVariants as mod
 ghost use Rattle.line_keys.specs.declared.keys.KeyCode.TheVariants.{Backspace, Char, Enter, Esc};
 ghost use Rattle.line_keys.specs.declared.keys.TheConstants.Modifiers.{ALT, CTRL, NONE};
 
-/// What the keys of a count write.
-pub fn what_counts_write()
+/// What the keys of a count write, which keys begin a count, and which go on with it.
+pub fn what_counts_say()
     // M--, 2 and 3 write -23: the digits are counted apart from the sign.
     ensures minus_two_three { count_of (event (Char 45) ALT ∷ event (Char 50) NONE ∷ event (Char 51) NONE ∷ [])
         ≡ record { n = 23; positive = false } }
@@ -37,10 +37,6 @@ pub fn what_counts_write()
         ≡ record { n = 1000; positive = true } }
     // Without keys the count is 1.
     ensures no_keys { count_of [] ≡ one }
-{}
-
-/// Which keys begin a count, and which go on with it.
-pub fn which_keys_a_count_has()
     // In Emacs M-5 begins a count and 5 does not; in Vi's command mode it is the other way round.
     ensures emacs_alt { begins_count styles.Emacs modes.Insert (event (Char 53) ALT) ≡ true }
     ensures emacs { begins_count styles.Emacs modes.Insert (event (Char 53) NONE) ≡ false }
@@ -57,17 +53,13 @@ pub fn which_keys_a_count_has()
         (event (Char 51) NONE) ≡ false }
 {}
 
-/// After C-X the key C-U takes back 3 steps under the count 3, and Backspace kills to the end of the line under -3.
-pub fn second_keys_have_commands()
-    ensures undoes { second_at (record { n = 3; positive = true }) (event (Char 85) CTRL) ≡ undo 3 }
-    ensures kills { second_at (record { n = 3; positive = false }) (event Backspace NONE)
+/// What second keys do, and what a command becomes that is done again.
+pub fn what_commands_become()
+    ensures takes_back { second_at (record { n = 3; positive = true }) (event (Char 85) CTRL) ≡ undo 3 }
+    ensures kills_on { second_at (record { n = 3; positive = false }) (event Backspace NONE)
         ≡ kill EndOfLine }
     ensures aborts { second_at one (event Esc NONE) ≡ abort }
     ensures other { second_at one (event (Char 97) NONE) ≡ unknown }
-{}
-
-/// What a command becomes that is done again.
-pub fn what_is_done_again()
     // A kill or a move done again takes the new count; without one it keeps its own.
     ensures kills { redone true (Some 3) None (kill (ForwardChar 7)) ≡ kill (ForwardChar 3) }
     ensures keeps { redone true None None (kill (BackwardChar 7)) ≡ kill (BackwardChar 7) }

@@ -4,13 +4,12 @@ use self::Made::*;
 use self::With::*;
 use crate::holds;
 use bitflags::Flags;
-use line_config::Result;
 use line_editor::binding::{Event, EventHandler, NoHandler};
 use line_keys::cmd::Cmd;
 use line_keys::keys::{KeyCode as K, KeyEvent, Modifiers as M};
 use line_keys::refresher::Invoke;
-use std::alloc::Global;
 use std::collections::HashMap;
+use std::test::Fail;
 
 /// Each set of modifiers; the same with Ctrl, with Shift and without Shift.
 const SETS: &[(M, M, M, M)] = &[
@@ -177,37 +176,32 @@ const EVENTS: &[(Made, K, With)] = &[
     (Plain('q'), K::Char('q'), Only(M::NONE, M::NONE)),
 ];
 
-/// The modifiers with which an event is made, and what they become.
-fn modifiers(with: &With, set: &(M, M, M, M)) -> (M, M) {
+/// Whether an event is made of this key, with these modifiers.
+fn is_made(made: &Made, code: K, with: &With, set: &(M, M, M, M)) -> bool {
     let (mods, and_ctrl, and_shift, not_shift) = *set;
-    match with {
+    let (given, left) = match with {
         Each => (mods, mods),
         EachAndCtrl => (mods, and_ctrl),
         EachAndShift => (mods, and_shift),
         EachNotShift => (mods, not_shift),
         Only(given, left) => (*given, *left),
-    }
-}
-
-/// The event that is made with these modifiers.
-fn event(made: &Made, mods: M) -> KeyEvent {
-    match made {
-        New(c) => KeyEvent::new(*c, mods),
+    };
+    let event = match made {
+        New(c) => KeyEvent::new(*c, given),
         Ctrl(c) => KeyEvent::ctrl(*c),
         Alt(c) => KeyEvent::alt(*c),
         Plain(c) => KeyEvent::from(*c),
-        Normal(code) => KeyEvent::normalize(KeyEvent(*code, mods)),
-    }
+        Normal(code) => KeyEvent::normalize(KeyEvent(*code, given)),
+    };
+    event == KeyEvent(code, left)
 }
 
-/// The event that is made, with each set of modifiers.
+/// Each event is made, with each set of modifiers.
 #[test]
 fn are_made(rt: HostRuntime) {
     for (row, (made, code, with)) in EVENTS.iter().enumerate() {
         for set in SETS {
-            let (given, left) = modifiers(with, set);
-            let is_made = event(made, given) == KeyEvent(*code, left);
-            holds(&rt, is_made, "made of row", row);
+            holds(&rt, is_made(made, *code, with, set), "made of row", row);
         }
     }
 }
@@ -329,37 +323,25 @@ const COMBINED: &[Sets] = &[
     ),
 ];
 
-/// Whether two sets are combined so.
-fn are_combined(sets: &Sets) -> bool {
-    let (_, a, b, both, common, either, first, lacks) = *sets;
-    let is_joined = a | b == both && a & b == common && a ^ b == either;
-    is_joined && a - b == first && !a == lacks
-}
-
-/// Whether one set is put into the other, taken from it and changed round.
-fn are_changed(sets: &Sets) -> bool {
-    let (_, a, b, both, _, _, first, _) = *sets;
-    let mut set = a;
-    set.insert(b);
-    let inserted = set;
-    set.remove(b);
-    let removed = set;
-    set.toggle(both);
-    inserted == both && removed == first && set == both - first
-}
-
-/// Whether a set has the members and the bits that it is to have.
-fn is_known(sets: &Sets) -> bool {
-    let (bits, a, b, _, common, _, _, _) = *sets;
-    let has = a.contains(b) == (common == b) && a.intersects(b) == (common != M::NONE);
-    let is_made = M::from_bits(bits) == Some(a) && M::from_bits(bits | 1) == None;
-    has && a.is_empty() == (a == M::NONE) && a.bits() == bits && is_made
-}
-
+/// Sets have their bits and members, and two are combined so, also where one is put into the other, taken from it and
+/// changed round.
 #[test]
 fn modifiers_are_sets(rt: HostRuntime) {
     for (row, sets) in COMBINED.iter().enumerate() {
-        let is_so = are_combined(sets) && are_changed(sets) && is_known(sets);
+        let (bits, a, b, both, common, either, first, lacks) = *sets;
+        let is_joined = a | b == both && a & b == common && a ^ b == either;
+        let is_parted = a - b == first && !a == lacks;
+        let mut set = a;
+        set.insert(b);
+        let inserted = set;
+        set.remove(b);
+        let removed = set;
+        set.toggle(both);
+        let is_changed = inserted == both && removed == first && set == both - first;
+        let has = a.contains(b) == (common == b) && a.intersects(b) == (common != M::NONE);
+        let is_known = a.is_empty() == (a == M::NONE) && a.bits() == bits;
+        let is_made = M::from_bits(bits) == Some(a) && M::from_bits(bits | 1) == None;
+        let is_so = is_joined && is_parted && is_changed && has && is_known && is_made;
         holds(&rt, is_so, "sets of row", row);
     }
     let retained = !M::from_bits_retain(0xf1) == M::CTRL_ALT_SHIFT && M::from_bits(16) == None;
@@ -367,34 +349,25 @@ fn modifiers_are_sets(rt: HostRuntime) {
     holds(&rt, retained && ends, "sets by their bits", 0);
 }
 
-/// What a map answers for two events, of which one equals a key of it.
-fn answers_of_a_map(alloc: Global) -> Result<(Option<u8>, Option<u8>)> {
-    let mut commands: HashMap<KeyEvent, u8> = HashMap::new(alloc);
-    let _ = commands.insert(KeyEvent::ctrl('A'), 1)?;
-    let _ = commands.insert(KeyEvent::alt('A'), 2)?;
-    let bound = commands.get(&KeyEvent::from('\u{1}')).copied();
-    Ok((bound, commands.get(&KeyEvent::from('A')).copied()))
-}
-
-/// The keys of an event are got by their places.
-fn has_its_key(alloc: Global, key: KeyEvent) -> Result<bool> {
-    let event = Event::from_key(alloc, key)?;
-    let (first, second) = (event.get(0).copied(), event.get(1).copied());
-    Ok(first == Some(key) && second.is_none() && Event::Any.get(0).is_none())
-}
-
-/// Equal events are one key of a map, and what is bound to one is its handler.
+/// Equal events are one key of a map, what is bound to one is its handler, and the keys of an event are got by their places.
 #[test]
-fn of_maps_and_events(rt: HostRuntime) {
-    let mapped = answers_of_a_map(rt.alloc()).expect(&rt, "no fault");
-    let is_mapped = mapped == (Some(1), None);
-    let text = format!(in rt.alloc(); "{:?}", KeyEvent::ctrl('A')).expect(&rt, "no fault");
+fn of_maps_and_events(rt: HostRuntime) -> Result<(), Fail> {
+    let is_mapped = {
+        let mut commands: HashMap<KeyEvent, u8> = HashMap::new(rt.alloc());
+        let _ = commands.insert(KeyEvent::ctrl('A'), 1)?;
+        let _ = commands.insert(KeyEvent::alt('A'), 2)?;
+        let bound = commands.get(&KeyEvent::from('\u{1}')).copied();
+        bound == Some(1) && commands.get(&KeyEvent::from('A')).is_none()
+    };
+    let text = format!(in rt.alloc(); "{:?}", KeyEvent::ctrl('A'))?;
     let is_shown = text.as_str() == "KeyEvent(Char('A'), Modifiers(8))";
     let key = KeyEvent::ctrl('x');
-    let is_got = has_its_key(rt.alloc(), key).expect(&rt, "no fault");
+    let event = Event::from_key(rt.alloc(), key)?;
+    let is_got = event.get(0).copied() == Some(key) && event.get(1).is_none();
     let handler: EventHandler<NoHandler> = EventHandler::from(Cmd::Noop);
     let is_simple = matches!(handler, EventHandler::Simple(Cmd::Noop));
-    let is_input = (&"ab").input() == "ab";
-    let is_so = is_mapped && is_shown && is_got && is_simple && is_input;
-    holds(&rt, is_so, text.as_str(), 0);
+    let is_so = is_mapped && is_shown && is_got && is_simple;
+    let is_whole = Event::Any.get(0).is_none() && (&"ab").input() == "ab";
+    holds(&rt, is_so && is_whole, text.as_str(), 0);
+    Ok(())
 }

@@ -3,7 +3,7 @@
 
 mod pairs;
 
-use self::Does::{Binds, Finds, Starts};
+use self::Does::{Becomes, Binds, Finds, Starts};
 use self::On::{Each, Keys, Mouse};
 use crate::holds;
 use line_config::{ReadlineError, Result};
@@ -59,12 +59,13 @@ fn number(handler: Option<&EventHandler>) -> Option<u16> {
 }
 
 /// What is done with a map: another one is begun; an event is bound to a number; or it is looked up, and is or begins a bound
-/// one, or not.
+/// one, or not. Or it is copied, and its normal form is another event.
 #[derive(Drop)]
 enum Does {
     Starts,
     Binds(u16),
     Finds(bool),
+    Becomes(On),
 }
 
 /// What is done with an event, the number that the map answers for it, and how many nodes the map has then.
@@ -106,7 +107,20 @@ const STEPS: &[Step] = &[
     (Starts, Each, None, 0),
     (Binds(1), Keys("", 0, 1000), None, 1000),
     (Finds(true), Keys("", 0, 1000), Some(1), 1000),
+    // Events are copied and put into normal form.
+    (Starts, Each, None, 0),
+    (Becomes(Keys("Xa", 0, 0)), Keys("xa", 0, 0), None, 0),
+    (Becomes(Each), Each, None, 0),
+    (Becomes(Mouse), Mouse, None, 0),
 ];
+
+/// Whether the copy of an event is that event, and this is its normal form.
+fn is_copied(alloc: Global, on: &On, normal: &On) -> Result<bool> {
+    let original = event(alloc, on)?;
+    let copy = original.clone(alloc)?;
+    let is_same = copy == original;
+    Ok(is_same && copy.normalize() == event(alloc, normal)?)
+}
 
 /// Does a step. Where memory runs out, the number of nodes is as it was.
 fn takes(rt: &impl Abort, alloc: Global, bindings: &mut Bindings, step: &Step) -> Result<()> {
@@ -133,19 +147,12 @@ fn takes(rt: &impl Abort, alloc: Global, bindings: &mut Bindings, step: &Step) -
             let found = number(bindings.get(&event));
             (found, bindings.begins(&event) == *begins)
         }
+        Becomes(normal) => (None, is_copied(alloc, on, normal)?),
     };
     let left = bindings.nodes();
     let is_so = found == *wanted && as_wanted && left == *nodes;
     holds(rt, is_so, "nodes", left);
     Ok(())
-}
-
-#[test]
-fn events_are_bound_and_found(rt: HostRuntime) {
-    let mut bindings = Bindings::new(rt.alloc());
-    for step in STEPS {
-        takes(&rt, rt.alloc(), &mut bindings, step).expect(&rt, "no fault");
-    }
 }
 
 /// Each of the 500 keys after these others is bound to a number of its own, and then found.
@@ -165,8 +172,13 @@ fn share_a_node(rt: &impl Abort, alloc: Global, front: &'static str) {
     }
 }
 
+/// Events are bound, found and copied; and five hundred keys share a node.
 #[test]
-fn five_hundred_keys_share_a_node(rt: HostRuntime) {
+fn events_are_keys_of_a_map(rt: HostRuntime) {
+    let mut bindings = Bindings::new(rt.alloc());
+    for step in STEPS {
+        takes(&rt, rt.alloc(), &mut bindings, step).expect(&rt, "no fault");
+    }
     share_a_node(&rt, rt.alloc(), "");
     share_a_node(&rt, rt.alloc(), "X");
 }
@@ -219,27 +231,4 @@ fn forty_keys_are_bound_or_none(rt: HostRuntime) {
         outcome => outcome,
     };
     outcome.expect(&rt, "no other error");
-}
-
-/// Events, and their normal forms.
-const COPIED: &[(On, On)] = &[
-    (Keys("xa", 0, 0), Keys("Xa", 0, 0)),
-    (Each, Each),
-    (Mouse, Mouse),
-];
-
-/// Whether the copy of an event is that event, and this is its normal form.
-fn is_copied(alloc: Global, on: &On, wanted: &On) -> Result<bool> {
-    let event_here = event(alloc, on)?;
-    let copy = event_here.clone(alloc)?;
-    let is_same = copy == event_here;
-    Ok(is_same && copy.normalize() == event(alloc, wanted)?)
-}
-
-#[test]
-fn events_are_copied_and_put_into_normal_form(rt: HostRuntime) {
-    for (row, (on, wanted)) in COPIED.iter().enumerate() {
-        let is_copied = is_copied(rt.alloc(), on, wanted).expect(&rt, "no fault");
-        holds(&rt, is_copied, "event of row", row);
-    }
 }

@@ -23,29 +23,7 @@ ghost use Rattle.line_keys.specs.declared.keys.KeyEvent.{KeyEvent};
 ghost use Rattle.line_keys.specs.declared.keys.TheConstants.Modifiers.{ALT, CTRL, NONE};
 ghost use Rattle.line_parts.specs.Environment.{Environment};
 
-/// What is read after a key that searches.
-pub fn keys_behind_a_search()
-    // After a key that searches with the count 2, the key b gives the move to the second b.
-    ensures plain_key { (s : Sequences) (environment : Environment) (draft : Draft) (last : KeyEvent) →
-        Tailed s environment draft (first_input Emacs) last (searches 2 (λ c. Forward c))
-        (key (event (Char 98) NONE) ∷ []) (record {
-          command = move (ViCharSearch 2 (Forward 98));
-          draft = draft;
-          input = record (first_input Emacs) { last_search = Some (Forward 98) };
-          shown = kept ∷ [];
-        }) }
-    // After a key that searches with the count 2, Enter is read too, and stands for nothing.
-    ensures other_key { (s : Sequences) (environment : Environment) (draft : Draft) (last : KeyEvent) →
-        Tailed s environment draft (first_input Emacs) last (searches 2 (λ c. Forward c))
-        (key (event Enter NONE) ∷ []) (record {
-          command = unknown;
-          draft = draft;
-          input = first_input Emacs;
-          shown = kept ∷ [];
-        }) }
-{}
-
-/// Phrases of Emacs, where nothing is bound.
+/// Phrases of Emacs, where nothing is bound, and where keys are.
 pub fn phrases_of_emacs()
     // M-3 and a are a phrase that inserts three a's; the hint is asked again.
     ensures three_times_a { (environment : Environment) → Phrase nothing_bound environment (empty_draft 0)
@@ -109,10 +87,24 @@ pub fn phrases_of_emacs()
           input = first_input Emacs;
           shown = kept ∷ [];
         }) }
-{}
-
-/// Phrases of Emacs, where keys are bound.
-pub fn phrases_where_keys_are_bound()
+    // After a key that searches with the count 2, the key b gives the move to the second b.
+    ensures plain_key { (s : Sequences) (environment : Environment) (draft : Draft) (last : KeyEvent) →
+        Tailed s environment draft (first_input Emacs) last (searches 2 (λ c. Forward c))
+        (key (event (Char 98) NONE) ∷ []) (record {
+          command = move (ViCharSearch 2 (Forward 98));
+          draft = draft;
+          input = record (first_input Emacs) { last_search = Some (Forward 98) };
+          shown = kept ∷ [];
+        }) }
+    // After a key that searches with the count 2, Enter is read too, and stands for nothing.
+    ensures other_key { (s : Sequences) (environment : Environment) (draft : Draft) (last : KeyEvent) →
+        Tailed s environment draft (first_input Emacs) last (searches 2 (λ c. Forward c))
+        (key (event Enter NONE) ∷ []) (record {
+          command = unknown;
+          draft = draft;
+          input = first_input Emacs;
+          shown = kept ∷ [];
+        }) }
     // Where the sequence C-X, a is bound, these keys are its command.
     ensures bound_sequence { (environment : Environment) →
         let sequence = keys (event (Char 88) CTRL ∷ event (Char 97) NONE ∷ []) in

@@ -9,6 +9,7 @@ use line_config::{Config, EditMode};
 use line_editor::Bindings;
 use line_editor::edit::State;
 use line_editor::input_state::InputState;
+use line_keys::cmd::Cmd;
 use line_keys::count::{Count, TypedCount, begins_count, continues_count};
 use line_keys::keys::{KeyCode as K, KeyEvent, Modifiers as M};
 use line_keys::refresher::InputMode;
@@ -69,7 +70,7 @@ fn commanded(
     digits: &str,
     way: &Way,
     key: KeyEvent,
-) -> String {
+) -> Cmd {
     let mut typist = Typist::new(alloc);
     let mut mods = M::ALT;
     for digit in digits.chars() {
@@ -87,10 +88,9 @@ fn commanded(
     let config = Config::builder(GraphemeClusterMode::Unicode).build();
     let bindings = Bindings::new(alloc);
     let mut input = InputState::new(&config, &bindings);
-    let command = state
+    state
         .next_cmd(&mut input, &mut typist, true)
-        .expect(rt, "no fault");
-    format!(in alloc; "{command:?}").expect(rt, "no fault")
+        .expect(rt, "no fault")
 }
 
 /// What comes of a key on a line: its meaning for a count that is handed over, or the command where it is typed.
@@ -119,19 +119,12 @@ fn found(
         cursor,
     ).expect(rt, "no fault");
     state.hint().expect(rt, "no fault");
-    let Some(handed) = count.0 else {
-        return commanded(rt, alloc, &mut state, count.1, way, key);
-    };
-    let meaning = match way {
-        Way::Second => Meaning::Command(second_key(key, handed)),
-        _ => entry_of_key(
-            EditMode::Emacs,
-            InputMode::Insert,
-            key,
-            Some(handed),
-            &state,
-        )
-        .meaning,
+    let meaning = match (count.0, way) {
+        (None, _) => Meaning::Command(commanded(rt, alloc, &mut state, count.1, way, key)),
+        (Some(handed), Way::Second) => Meaning::Command(second_key(key, handed)),
+        (handed, _) => {
+            entry_of_key(EditMode::Emacs, InputMode::Insert, key, handed, &state).meaning
+        }
     };
     let outcome = match meaning {
         Meaning::Command(command) => format!(in alloc; "{command:?}"),
@@ -223,23 +216,19 @@ const COUNT_KEYS: &[CountKey] = &[
     (K::F(5), M::ALT, false, false, false, false),
 ];
 
-/// Whether a key is one of a count so.
-fn is_of_count(row: &CountKey) -> bool {
-    let (code, mods, begins, goes_on, vi_begins, vi_goes_on) = *row;
-    let key = KeyEvent(code, mods);
-    begins_count(EditMode::Emacs, InputMode::Insert, key) == begins
-        && begins_count(EditMode::Vi, InputMode::Command, key) == vi_begins
-        && !begins_count(EditMode::Vi, InputMode::Insert, key)
-        && !begins_count(EditMode::Vi, InputMode::Replace, key)
-        && continues_count(EditMode::Emacs, key) == goes_on
-        && continues_count(EditMode::Vi, key) == vi_goes_on
-}
-
 /// Which keys are those of a count, none of which begins in Vi's other modes; and each kind of search with its character.
 #[test]
 fn of_count_keys_and_searches(rt: HostRuntime) {
     for (row, count_key) in COUNT_KEYS.iter().enumerate() {
-        holds(&rt, is_of_count(count_key), "key of row", row);
+        let (code, mods, begins, goes_on, vi_begins, vi_goes_on) = *count_key;
+        let key = KeyEvent(code, mods);
+        let is_so = begins_count(EditMode::Emacs, InputMode::Insert, key) == begins
+            && begins_count(EditMode::Vi, InputMode::Command, key) == vi_begins
+            && !begins_count(EditMode::Vi, InputMode::Insert, key)
+            && !begins_count(EditMode::Vi, InputMode::Replace, key)
+            && continues_count(EditMode::Emacs, key) == goes_on
+            && continues_count(EditMode::Vi, key) == vi_goes_on;
+        holds(&rt, is_so, "key of row", row);
     }
     let forward = SearchKind::Forward.search('é') == CharSearch::Forward('é')
         && SearchKind::ForwardBefore.search('é') == CharSearch::ForwardBefore('é');

@@ -16,8 +16,8 @@ ghost use Rattle.line_keys.specs.declared.keys.TheConstants.Modifiers.{NONE};
 ghost use Rattle.line_keys.specs.declared.refresher.InputMode.TheVariants.{Command, Insert, Replace};
 ghost use Rattle.tests_editor.specs.Spoken.{Comes, InCommandMode, InInsertMode, LeavesDraft, TwiceAgain, TwiceAgainBehind, blank, commanding, inserting, plain, typed, vi, with_alt};
 
-/// Counts, and operators with their motions, on an empty line in command mode.
-pub fn counts_and_operators()
+/// Counts, operators with their motions, and searches for a character, on an empty line in command mode.
+pub fn operators_and_searches()
     // The keys 0 2 d 3 w are two phrases: 0 goes to the line's start, and the others kill to the sixth word on.
     ensures zero { InCommandMode (typed (48 ∷ [])) (move BeginningOfLine) commanding }
     ensures multiplied { let killed = kill (ForwardWord 6 Start words.Vi) in
@@ -40,14 +40,10 @@ pub fn counts_and_operators()
         InCommandMode (typed (100 ∷ 87 ∷ [])) killed (vi Command (Some killed) None) }
     // A change without a motion stays in insert mode.
     ensures changes_nothing { InCommandMode (typed (99 ∷ 113 ∷ [])) unknown inserting }
-{}
-
-/// Searches for a character.
-pub fn searches()
     // A search is kept where a plain character is read, also after an operator; any other key leaves the one before.
     ensures moved { let left = vi Command None (Some (Forward 120)) in
         InCommandMode (typed (102 ∷ 120 ∷ [])) (move (ViCharSearch 1 (Forward 120))) left }
-    ensures killed { let killed = kill (ViCharSearch 2 (ForwardBefore 120)) in
+    ensures killed_to_a_character { let killed = kill (ViCharSearch 2 (ForwardBefore 120)) in
         let left = vi Command (Some killed) (Some (ForwardBefore 120)) in
         InCommandMode (typed (100 ∷ 50 ∷ 116 ∷ 120 ∷ [])) killed left }
     ensures other_key { let kept = vi Command None (Some (Forward 120)) in
@@ -67,8 +63,8 @@ pub fn searches()
     ensures no_motion { InCommandMode (typed (100 ∷ 59 ∷ [])) unknown commanding }
 {}
 
-/// The last change done again by the dot.
-pub fn the_last_change_again()
+/// The last change done again by the dot, and what becomes the last change.
+pub fn the_last_change()
     // 2 and the dot do the last change again, with 2 in the place of its count.
     ensures nothing { InCommandMode (typed (50 ∷ 46 ∷ [])) noop commanding }
     ensures killed { TwiceAgain (kill (ForwardChar 5)) (kill (ForwardChar 2)) }
@@ -88,10 +84,24 @@ pub fn the_last_change_again()
     ensures typed { let text = 120 ∷ 121 ∷ [] in
         TwiceAgainBehind text (self_insert 1 120) (insert 2 text) }
     ensures untyped { TwiceAgain (self_insert 1 120) (self_insert 2 120) }
+    ensures command_mode { let last = Some (kill WholeLine) in
+        becomes_change Command last (self_insert 1 120) ≡ true }
+    ensures copies { becomes_change Command None (vi_yank_to WholeLine) ≡ true }
+    ensures moves { becomes_change Command None (move BeginningOfLine) ≡ false }
+    ensures types { becomes_change Insert None (self_insert 1 120) ≡ true }
+    ensures typed_on { let last = Some (self_insert 1 120) in
+        becomes_change Insert last (self_insert 1 121) ≡ false }
+    ensures behind_a_replacement { let last = Some (replace WholeLine None) in
+        becomes_change Insert last (self_insert 1 120) ≡ false }
+    ensures behind_a_kill { let last = Some (kill WholeLine) in
+        becomes_change Insert last (self_insert 1 120) ≡ true }
+    ensures kills { let last = Some (replace WholeLine None) in
+        becomes_change Insert last (kill (BackwardChar 1)) ≡ true }
+    ensures types_over { becomes_change Replace None (overwrite 120) ≡ false }
 {}
 
-/// Keys with Alt in insert mode.
-pub fn alt_in_insert_mode()
+/// Keys with Alt in insert mode, and groups of insertions.
+pub fn insert_mode()
     // After Alt in insert mode a phrase of command mode is read, in which 0 is no count.
     ensures zero { InInsertMode (with_alt 48 ∷ []) (move BeginningOfLine) commanding }
     ensures killed { let killed = kill (ForwardWord 1 Start words.Vi) in
@@ -109,29 +119,6 @@ pub fn alt_in_insert_mode()
     ensures own_key { let killed = kill (BackwardChar 2) in
         let keymap = only_bound (keys (with_alt 119 ∷ [])) (Some killed) in
         Comes keymap blank inserting (with_alt 119 ∷ []) killed inserting }
-{}
-
-/// What becomes the last change: in command mode each change that can be done again; in the others not a character that
-/// is typed after a replacement or a typed one.
-pub fn what_becomes_the_last_change()
-    ensures command_mode { let last = Some (kill WholeLine) in
-        becomes_change Command last (self_insert 1 120) ≡ true }
-    ensures copies { becomes_change Command None (vi_yank_to WholeLine) ≡ true }
-    ensures moves { becomes_change Command None (move BeginningOfLine) ≡ false }
-    ensures typed { becomes_change Insert None (self_insert 1 120) ≡ true }
-    ensures typed_on { let last = Some (self_insert 1 120) in
-        becomes_change Insert last (self_insert 1 121) ≡ false }
-    ensures behind_a_replacement { let last = Some (replace WholeLine None) in
-        becomes_change Insert last (self_insert 1 120) ≡ false }
-    ensures behind_a_kill { let last = Some (kill WholeLine) in
-        becomes_change Insert last (self_insert 1 120) ≡ true }
-    ensures killed { let last = Some (replace WholeLine None) in
-        becomes_change Insert last (kill (BackwardChar 1)) ≡ true }
-    ensures typed_over { becomes_change Replace None (overwrite 120) ≡ false }
-{}
-
-/// The key i begins a group of changes, Esc ends it, and Alt ends it before its own phrase is read.
-pub fn groups_of_insertions()
     ensures begun { LeavesDraft nothing_bound blank commanding (typed (105 ∷ [])) (in_group blank) }
     ensures ended { let draft = in_group blank in
         LeavesDraft nothing_bound draft inserting (event Esc NONE ∷ []) (out_of_group draft) }

@@ -1,7 +1,7 @@
 //! Commands and calls of an edit state, made by their names.
 
 use crate::recorder::Recorder;
-use crate::source::Source;
+use crate::source::{ANCHORS, Source};
 use crate::typist::Typist;
 use line_buffer::{KillRing, Movement};
 use line_config::{Config, Result};
@@ -79,7 +79,7 @@ fn call(
     match name {
         "reset" => kills.reset(),
         "edit_yank" => {
-            let (n, anchor) = (source.count()?, source.anchor()?);
+            let (n, anchor) = (source.count()?, source.named(ANCHORS)?);
             let text = source.plain_text(alloc).ok()??;
             return Some(state.edit_yank(input, &text, anchor, n));
         }
@@ -102,6 +102,12 @@ fn call(
     Some(Ok(()))
 }
 
+const KINDS: &[(&str, CmdKind)] = &[
+    ("MoveCursor", CmdKind::MoveCursor),
+    ("Other", CmdKind::Other),
+    ("ForcedRefresh", CmdKind::ForcedRefresh),
+];
+
 /// Makes the call of this name that draws with an argument of its own.
 fn draws(
     alloc: Global,
@@ -117,11 +123,11 @@ fn draws(
         }
         "edit_insert_text" => state.edit_insert_text(&source.plain_text(alloc).ok()??),
         "refresh_line_with_msg" => {
-            let kind = kind_named(source.word()?)?;
+            let kind = source.named(KINDS)?;
             state.refresh_line_with_msg(source.text(), kind)
         }
         "refresh_prompt_and_line" => state.refresh_prompt_and_line(source.text()?),
-        "move_cursor" => state.move_cursor(kind_named(source.word()?)?),
+        "move_cursor" => state.move_cursor(source.named(KINDS)?),
         name => return asks(state, name),
     };
     Some(outcome)
@@ -147,16 +153,6 @@ fn asks(state: &mut Editor<'_, '_>, name: &str) -> Option<Result<()>> {
     Some(outcome)
 }
 
-/// The kind of this name.
-fn kind_named(name: &str) -> Option<CmdKind> {
-    match name {
-        "MoveCursor" => Some(CmdKind::MoveCursor),
-        "Other" => Some(CmdKind::Other),
-        "ForcedRefresh" => Some(CmdKind::ForcedRefresh),
-        _ => None,
-    }
-}
-
 /// Makes the state's own call of a movement.
 fn goes(state: &mut Editor<'_, '_>, movement: &Movement) -> Result<()> {
     match movement {
@@ -175,33 +171,23 @@ fn goes(state: &mut Editor<'_, '_>, movement: &Movement) -> Result<()> {
     }
 }
 
-/// How a call of the renderer is written down, and its letter: all is drawn, the screen cursor moves, a text is
-/// written, the rest of the row is cleared, the screen is cleared, the cursor goes to the first column, and it beeps.
-const LETTERS: &[(&str, char)] = &[
-    ("draw ", 'd'),
-    ("move (", 'm'),
-    ("write ", 'w'),
-    ("clear to ", 'c'),
-    ("clear screen", 's'),
-    ("move to ", 'l'),
-    ("beep", 'b'),
-];
-
-/// The letter of a call, and a question mark for one that no editor makes.
-fn letter(call: &str) -> char {
-    for (start, letter) in LETTERS {
-        if call.starts_with(*start) {
-            return *letter;
-        }
-    }
-    '?'
-}
-
-/// The letters of the renderer's calls that are written down, but for so many at first.
+/// The letters of the renderer's calls that are written down, but for so many at first: all is drawn, the screen cursor
+/// moves, a text is written, the rest of the row is cleared, the screen is cleared, the cursor goes to the first column,
+/// and it beeps. A call that no editor makes has a question mark.
 pub fn letters(alloc: Global, log: &str, before: usize) -> Result<String> {
     let mut letters = String::new(alloc);
     for call in log.lines().skip(before) {
-        letters.push(letter(call))?;
+        let mut words = call.split(' ');
+        letters.push(match (words.next(), words.next()) {
+            (Some("draw"), _) => 'd',
+            (Some("move"), Some("to")) => 'l',
+            (Some("move"), _) => 'm',
+            (Some("write"), _) => 'w',
+            (Some("clear"), Some("to")) => 'c',
+            (Some("clear"), Some("screen")) => 's',
+            (Some("beep"), _) => 'b',
+            _ => '?',
+        })?;
     }
     Ok(letters)
 }

@@ -3,7 +3,6 @@
 #![tactic(auto)]
 
 pub mod calls;
-pub mod fixed;
 pub mod recorder;
 pub mod source;
 pub mod typist;

@@ -12,6 +12,7 @@ use line_state::{Renderer, Resizable, ScreenState};
 use std::alloc::Global;
 use std::borrow::CowStr;
 use std::fmt::{Display, Formatter};
+use std::marker::PhantomData;
 use std::{fmt, io};
 
 const ORIGIN: Position = Position { row: 0, col: 0 };
@@ -19,8 +20,15 @@ const ORIGIN: Position = Position { row: 0, col: 0 };
 /// What a renderer says of a call that fails by an error of its own.
 pub const CUT: &str = "the screen is cut";
 
-/// A renderer: a screen of so many columns, each of one byte, that keeps a line of text for each call that can fail.
-pub struct Recorder {
+/// A screen that can be given another size.
+pub struct Sizable;
+
+/// A screen that keeps its size: no call gives it another one, so an editor that draws on it has no `resized`.
+pub struct Fixed;
+
+/// A renderer: a screen of so many columns, each of one byte, that keeps a line of text for each call that can fail. It is
+/// `Resizable` where its screen is `Sizable`, and else a renderer with what `Renderer` asks for alone.
+pub struct Recorder<S = Sizable> {
     alloc: Global,
     columns: Unit,
     rows: Unit,
@@ -36,10 +44,11 @@ pub struct Recorder {
     failing: u64,
     is_cut: bool,
     log: String,
+    size: PhantomData<S>,
     ghost some_columns: { 0 < columns },
 }
 
-impl Drop for Recorder {
+impl<S> Drop for Recorder<S> {
     fn drop(self) {
         let Recorder {
             alloc: _,
@@ -57,13 +66,14 @@ impl Drop for Recorder {
             failing: _,
             is_cut: _,
             log: _,
+            size: _,
         } = self;
     }
 }
 
-impl Recorder {
+impl<S> Recorder<S> {
     /// An empty screen. Its call of the number `failing`, from 1 on, fails; none does where that is 0.
-    pub fn new(alloc: Global, columns: Unit, colors: bool, failing: u64) -> Recorder
+    pub fn new(alloc: Global, columns: Unit, colors: bool, failing: u64) -> Recorder<S>
         requires { 0 < columns }
     {
         Recorder {
@@ -82,6 +92,7 @@ impl Recorder {
             failing,
             is_cut: false,
             log: String::new(alloc),
+            size: PhantomData,
         }
     }
 
@@ -151,37 +162,30 @@ impl Recorder {
     }
 }
 
-/// Shows where the prompt ends, where the cursor is and where what is shown ends, by row and column, and a `+` where
-/// something is shown after the line; or that nothing was drawn.
-#[derive(Clone, Copy)]
-struct Places<'l>(Option<&'l Layout>);
+/// A part of what is written down of a call.
+#[derive(Drop)]
+enum Part<'p> {
+    /// Where the prompt ends, where the cursor is and where what is shown ends, by row and column, and a `+` where something
+    /// is shown after the line; or that nothing was drawn.
+    Places(Option<&'p Layout>),
+    /// The prompt, and where it has styles the form with them.
+    Prompt(&'p str, &'p str),
+}
 
-impl Display for Places<'_> {
+impl Display for Part<'_> {
     fn fmt<W: fmt::Write>(&self, f: &mut Formatter<W>) -> fmt::Result {
-        match self.0 {
-            Some(layout) => {
+        match self {
+            Part::Places(Some(layout)) => {
                 let (prompt, cursor, end) = (layout.prompt_size, layout.cursor, layout.end);
                 write!(f, "{}:{}", prompt.row, prompt.col)?;
                 write!(f, " {}:{}", cursor.row, cursor.col)?;
                 write!(f, " {}:{}", end.row, end.col)?;
                 f.write_str(if layout.has_info { "+" } else { "" })
             }
-            None => f.write_str("none"),
+            Part::Places(None) => f.write_str("none"),
+            Part::Prompt(raw, styled) if *raw == *styled => write!(f, "{raw:?}"),
+            Part::Prompt(raw, styled) => write!(f, "{raw:?} as {styled:?}"),
         }
-    }
-}
-
-/// Shows the prompt, and where it has styles the form with them.
-#[derive(Clone, Copy)]
-struct Styled<'p>(&'p str, &'p str);
-
-impl Display for Styled<'_> {
-    fn fmt<W: fmt::Write>(&self, f: &mut Formatter<W>) -> fmt::Result {
-        let (raw, styled) = (self.0, self.1);
-        if raw == styled {
-            return write!(f, "{raw:?}");
-        }
-        write!(f, "{raw:?} as {styled:?}")
     }
 }
 
@@ -240,7 +244,7 @@ fn after_byte(columns: Unit, place: Position, byte: u8) -> Position
     }
 }
 
-impl ScreenState for Recorder {
+impl<S> ScreenState for Recorder<S> {
     ghost use Rattle.std.specs.Prelude.{true, option_map, string_bytes};
     ghost use Rattle.line_buffer.specs.declared.layout.GraphemeClusterMode.TheVariants.{Unicode};
     ghost use Rattle.line_keys.specs.Display.{uncounted};
@@ -270,7 +274,7 @@ impl ScreenState for Recorder {
     ghost failures = { λ r. r.failures };
 }
 
-impl Renderer for Recorder {
+impl<S> Renderer for Recorder<S> {
     type Reader = Typist;
 
     ghost use Rattle.tests_steps.specs.ScreenLaws as laws;
@@ -294,11 +298,11 @@ impl Renderer for Recorder {
     ) -> Result<()> {
         let call = format!(in self.alloc;
             "draw {} {:?} {} {hint:?} old {} new {} {}",
-            Styled(prompt.raw(), prompt.styled()),
+            Part::Prompt(prompt.raw(), prompt.styled()),
             line.as_str(),
             line.pos(),
-            Places(old_layout),
-            Places(Some(new_layout)),
+            Part::Places(old_layout),
+            Part::Places(Some(new_layout)),
             shown(self.alloc, line, highlighter).as_str(),
         )?;
         self.note(&call)?;
@@ -336,7 +340,7 @@ impl Renderer for Recorder {
     }
 
     fn clear_rows(&mut self, layout: &Layout) -> Result<()> {
-        let call = format!(in self.alloc; "clear rows of {}", Places(Some(layout)))?;
+        let call = format!(in self.alloc; "clear rows of {}", Part::Places(Some(layout)))?;
         self.note(&call)?;
         self.clear();
         Ok(())

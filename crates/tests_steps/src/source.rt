@@ -12,15 +12,19 @@ pub struct Source<'t> {
     rest: &'t str,
 }
 
-/// The text that an escaped one stands for. None where an escape is bad.
-pub fn unescape(alloc: Global, text: &str) -> Result<Option<String>> {
-    let mut plain = Vec::new(alloc);
-    if unescape_line(text.as_bytes(), Escapes::V2, &mut plain)? {
-        Ok(String::from_utf8(plain).ok())
-    } else {
-        Ok(None)
-    }
-}
+const WORDS: &[(&str, Word)] = &[("Big", Word::Big), ("Emacs", Word::Emacs), ("Vi", Word::Vi)];
+
+const PLACES: &[(&str, At)] = &[
+    ("Start", At::Start),
+    ("BeforeEnd", At::BeforeEnd),
+    ("AfterEnd", At::AfterEnd),
+];
+
+/// The sides of the cursor.
+pub(crate) const ANCHORS: &[(&str, Anchor)] = &[
+    ("After", Anchor::After),
+    ("Before", Anchor::Before),
+];
 
 /// Whether a character only parts others.
 fn parts(c: char) -> bool {
@@ -35,11 +39,6 @@ impl<'t> Source<'t> {
         }
     }
 
-    /// Whether all was read.
-    pub fn is_empty(&self) -> bool {
-        self.rest.is_empty()
-    }
-
     /// What is left after so many bytes, which were read.
     fn skip(&mut self, len: usize) {
         self.rest = self.rest.get(len..).unwrap_or("").trim_start_matches(parts);
@@ -52,6 +51,17 @@ impl<'t> Source<'t> {
         let word = text.get(..len)?;
         self.skip(len);
         Some(word)
+    }
+
+    /// What a table has under the next word.
+    pub(crate) fn named<T: Copy>(&mut self, table: &[(&str, T)]) -> Option<T> {
+        let word = self.word()?;
+        for (name, value) in table {
+            if *name == word {
+                return Some(*value);
+            }
+        }
+        None
     }
 
     /// The next number.
@@ -81,38 +91,14 @@ impl<'t> Source<'t> {
 
     /// The next text, between double quotes, without its escapes.
     pub fn plain_text(&mut self, alloc: Global) -> Result<Option<String>> {
-        match self.text() {
-            Some(text) => unescape(alloc, text),
-            None => Ok(None),
-        }
-    }
-
-    /// The next kind of word.
-    fn word_kind(&mut self) -> Option<Word> {
-        match self.word()? {
-            "Big" => Some(Word::Big),
-            "Emacs" => Some(Word::Emacs),
-            "Vi" => Some(Word::Vi),
-            _ => None,
-        }
-    }
-
-    /// The next place on a word.
-    fn at(&mut self) -> Option<At> {
-        match self.word()? {
-            "Start" => Some(At::Start),
-            "BeforeEnd" => Some(At::BeforeEnd),
-            "AfterEnd" => Some(At::AfterEnd),
-            _ => None,
-        }
-    }
-
-    /// The next side of the cursor.
-    pub fn anchor(&mut self) -> Option<Anchor> {
-        match self.word()? {
-            "After" => Some(Anchor::After),
-            "Before" => Some(Anchor::Before),
-            _ => None,
+        let Some(text) = self.text() else {
+            return Ok(None);
+        };
+        let mut plain = Vec::new(alloc);
+        if unescape_line(text.as_bytes(), Escapes::V2, &mut plain)? {
+            Ok(String::from_utf8(plain).ok())
+        } else {
+            Ok(None)
         }
     }
 
@@ -144,8 +130,11 @@ impl<'t> Source<'t> {
         }
         let n = self.count()?;
         let movement = match name {
-            "BackwardWord" => Movement::BackwardWord(n, self.word_kind()?),
-            "ForwardWord" => Movement::ForwardWord(n, self.at()?, self.word_kind()?),
+            "BackwardWord" => Movement::BackwardWord(n, self.named(WORDS)?),
+            "ForwardWord" => {
+                let place = self.named(PLACES)?;
+                Movement::ForwardWord(n, place, self.named(WORDS)?)
+            }
             "ViCharSearch" => Movement::ViCharSearch(n, self.search()?),
             "BackwardChar" => Movement::BackwardChar(n),
             "ForwardChar" => Movement::ForwardChar(n),
@@ -166,8 +155,7 @@ impl<'t> Source<'t> {
         }
         match name {
             "Insert" | "Replace" | "ReplaceToBracket" => self.command_with_text(alloc, name),
-            "Dedent" | "Indent" | "Kill" | "Move" | "ViYankTo" => Ok(self.moved_command(name)),
-            name => Ok(self.counted_command(name)),
+            name => Ok(self.command_without_text(name)),
         }
     }
 
@@ -198,45 +186,28 @@ impl<'t> Source<'t> {
         })
     }
 
-    /// The command of this name, which has a movement alone.
-    fn moved_command(&mut self, name: &str) -> Option<Cmd> {
-        let movement = self.movement()?;
+    /// The command of this name, which has a movement, a count, a character, a side or a yes or no.
+    fn command_without_text(&mut self, name: &str) -> Option<Cmd> {
         Some(match name {
-            "Dedent" => Cmd::Dedent(movement),
-            "Indent" => Cmd::Indent(movement),
-            "Kill" => Cmd::Kill(movement),
-            "Move" => Cmd::Move(movement),
-            _ => Cmd::ViYankTo(movement),
-        })
-    }
-
-    /// The command of this name, which has a count, a character, a side or a yes or no.
-    fn counted_command(&mut self, name: &str) -> Option<Cmd> {
-        if name == "AcceptOrInsertLine" {
-            let _field = self.word();
-            let accept_in_the_middle = self.word() == Some("true");
-            return Some(Cmd::AcceptOrInsertLine {
-                accept_in_the_middle,
-            });
-        }
-        // what a command has no use for is not read
-        let n = match name {
-            "Overwrite" => 1,
-            _ => self.count()?,
-        };
-        let c = match name {
-            "Overwrite" | "ReplaceChar" | "SelfInsert" => self.character()?,
-            _ => ' ',
-        };
-        Some(match name {
-            "Overwrite" => Cmd::Overwrite(c),
-            "ReplaceChar" => Cmd::ReplaceChar(n, c),
-            "SelfInsert" => Cmd::SelfInsert(n, c),
-            "TransposeWords" => Cmd::TransposeWords(n),
-            "Undo" => Cmd::Undo(n),
-            "Yank" => Cmd::Yank(n, self.anchor()?),
-            "LineUpOrPreviousHistory" => Cmd::LineUpOrPreviousHistory(n),
-            "LineDownOrNextHistory" => Cmd::LineDownOrNextHistory(n),
+            "Dedent" => Cmd::Dedent(self.movement()?),
+            "Indent" => Cmd::Indent(self.movement()?),
+            "Kill" => Cmd::Kill(self.movement()?),
+            "Move" => Cmd::Move(self.movement()?),
+            "ViYankTo" => Cmd::ViYankTo(self.movement()?),
+            "Overwrite" => Cmd::Overwrite(self.character()?),
+            "ReplaceChar" => Cmd::ReplaceChar(self.count()?, self.character()?),
+            "SelfInsert" => Cmd::SelfInsert(self.count()?, self.character()?),
+            "TransposeWords" => Cmd::TransposeWords(self.count()?),
+            "Undo" => Cmd::Undo(self.count()?),
+            "Yank" => Cmd::Yank(self.count()?, self.named(ANCHORS)?),
+            "LineUpOrPreviousHistory" => Cmd::LineUpOrPreviousHistory(self.count()?),
+            "LineDownOrNextHistory" => Cmd::LineDownOrNextHistory(self.count()?),
+            "AcceptOrInsertLine" => {
+                let _field = self.word();
+                Cmd::AcceptOrInsertLine {
+                    accept_in_the_middle: self.word() == Some("true"),
+                }
+            }
             _ => return None,
         })
     }

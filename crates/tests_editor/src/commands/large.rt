@@ -2,8 +2,11 @@
 
 use super::does;
 use crate::holds;
-use line_buffer::KillRing;
+use line_buffer::{GraphemeClusterMode, KillRing};
+use line_config::Config;
+use line_editor::Bindings;
 use line_editor::edit::State;
+use line_editor::input_state::InputState;
 use line_keys::refresher::Refresher;
 use line_parts::{Context, History};
 use std::alloc::Global;
@@ -55,6 +58,9 @@ fn lasts(rt: &impl Abort, alloc: Global, case: &Case) {
         Some(&mut helper),
         context,
     ).expect(rt, "no fault");
+    let config = Config::new(GraphemeClusterMode::Unicode);
+    let bindings = Bindings::new(alloc);
+    let input = InputState::new(&config, &bindings);
     let mut kills = KillRing::new(alloc, 60);
     for round in 0..times.saturating_add(2) {
         let text = match round {
@@ -63,7 +69,7 @@ fn lasts(rt: &impl Abort, alloc: Global, case: &Case) {
             _ => *behind,
         };
         if !text.is_empty() {
-            does(rt, alloc, &mut state, &mut kills, text).expect(rt, "no fault");
+            does(rt, alloc, &mut state, &input, &mut kills, text).expect(rt, "no fault");
         }
     }
     let found = (state.line().len(), state.pos(), state.place());

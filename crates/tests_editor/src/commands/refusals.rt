@@ -20,49 +20,54 @@ use tests_parties::shelf::Shelf;
 use tests_steps::calls::{Editor, starts};
 use tests_steps::recorder::Recorder;
 
-/// What the editor stands on beside its line: nothing, a history of the line `one`, a hint, or a helper that takes no line.
-#[derive(Clone, Copy)]
+/// What the editor stands on: nothing, a history of the line `one`, a hint, a helper that takes no line, or a line to begin
+/// with and its cursor.
 enum With {
     Nothing,
     History,
     Hint,
     Refusal,
+    Line(&'static str, usize),
 }
 
 use With::*;
 
-/// That, the line with a bar at its cursor, commands and calls, and the line that they leave with ample memory.
+/// That, what is typed with a bar at the cursor, commands and calls, and the line that they leave with ample memory.
 type Case = (With, &'static str, &'static str, &'static str);
-
-/// The text before the bar, and the text after it.
-fn halves<'l>(rt: &impl Abort, marked: &'l str) -> (&'l str, &'l str) {
-    match marked.split_once('|') {
-        Some(found) => found,
-        None => panic!(rt; "no cursor in {marked:?}"),
-    }
-}
 
 /// Does the steps, which leave the history as it was.
 fn tries(rt: &impl Abort, alloc: Global, case: &Case) -> Result<()> {
-    let with = case.0;
+    let (mut hint, mut verdict, mut begins) = (None, (true, true, None), ("", 0));
     let mut history = Shelf::new(alloc, 0);
-    if matches!(with, With::History) {
-        let _ = history.add("one")?;
+    match &case.0 {
+        Nothing => {}
+        History => {
+            let _ = history.add("one")?;
+        }
+        Hint => hint = Some("日"),
+        Refusal => verdict = (true, false, Some("no")),
+        Line(text, cursor) => begins = (*text, *cursor),
     }
     let lines = history.len();
     let prompt = (
         String::from_str(alloc, "> ")?,
         String::from_str(alloc, "> ")?,
     );
-    let (hint, verdict) = match with {
-        With::Hint => (Some("日"), (true, true, None)),
-        With::Refusal => (None, (true, false, Some("no"))),
-        _ => (None, (true, true, None)),
-    };
     let mut screen = Recorder::new(alloc, 80, false, 0);
     let mut helper = Advisor::new(hint, verdict, None);
+    let asked = Some(&mut helper);
     let context = Context::new(&history);
-    let outcome = match State::new(alloc, &mut screen, &prompt, Some(&mut helper), context) {
+    let (text, cursor) = begins;
+    assert!(rt; text.is_char_boundary(cursor));
+    let outcome = match State::with_line(
+        alloc,
+        &mut screen,
+        &prompt,
+        asked,
+        context,
+        text,
+        cursor,
+    ) {
         Ok(mut state) => leaves(rt, alloc, case, &mut state),
         Err(error) => Err(error),
     };
@@ -73,27 +78,18 @@ fn tries(rt: &impl Abort, alloc: Global, case: &Case) -> Result<()> {
 /// Does the steps; where memory runs out in one of them, looks at what is left.
 fn leaves(rt: &impl Abort, alloc: Global, case: &Case, state: &mut Editor<'_, '_>) -> Result<()> {
     let (_, start, steps, after) = case;
-    let (before, behind) = halves(rt, start);
-    begins(alloc, state, before, behind)?;
-    let mut kills = KillRing::new(alloc, 60);
-    let refused = match does(rt, alloc, state, &mut kills, steps) {
-        Ok(()) => None,
-        Err(error) => Some(matches!(error, ReadlineError::Memory)),
-    };
-    if let Some(is_memory) = refused {
-        holds(rt, is_memory, start, 0);
-        return settled(rt, alloc, state, &mut kills);
-    }
-    holds(rt, at(rt, state) == halves(rt, after), after, 0);
-    Ok(())
-}
-
-/// Draws the empty line, and fills it.
-fn begins(alloc: Global, state: &mut Editor<'_, '_>, before: &str, behind: &str) -> Result<()> {
     let config = Config::new(GraphemeClusterMode::Unicode);
     let bindings = Bindings::new(alloc);
     let input = InputState::new(&config, &bindings);
-    starts(state, &input, before, behind)
+    let (before, behind) = start.split_once('|').expect(rt, "a cursor");
+    starts(state, &input, before, behind)?;
+    let mut kills = KillRing::new(alloc, 60);
+    if let Err(error) = does(rt, alloc, state, &input, &mut kills, steps) {
+        holds(rt, matches!(error, ReadlineError::Memory), start, 0);
+        return settled(rt, state, &input, &mut kills);
+    }
+    holds(rt, Some(at(rt, state)) == after.split_once('|'), after, 0);
+    Ok(())
 }
 
 /// The line before and after its cursor, which is on a boundary.
@@ -107,13 +103,14 @@ fn at<'l>(rt: &impl Abort, state: &'l Editor<'_, '_>) -> (&'l str, &'l str) {
 /// made, or none where they were dropped.
 fn settled(
     rt: &impl Abort,
-    alloc: Global,
     state: &mut Editor<'_, '_>,
+    input: &InputState<'_>,
     kills: &mut KillRing,
 ) -> Result<()> {
+    let config = Config::new(GraphemeClusterMode::Unicode);
     let _ = at(rt, state);
     let len = state.line().len();
-    let status = undone(alloc, state, kills)?;
+    let status = execute(Cmd::Undo(65535), state, input, kills, &config)?;
     let _ = at(rt, state);
     let left = state.line().len();
     let is_so = status == Status::Proceed && (left == 0 || left == len);
@@ -121,15 +118,8 @@ fn settled(
     Ok(())
 }
 
-/// Takes back all changes.
-fn undone(alloc: Global, state: &mut Editor<'_, '_>, kills: &mut KillRing) -> Result<Status> {
-    let config = Config::new(GraphemeClusterMode::Unicode);
-    let bindings = Bindings::new(alloc);
-    let input = InputState::new(&config, &bindings);
-    execute(Cmd::Undo(65535), state, &input, kills, &config)
-}
-
-/// Edits, commands of other kinds, moves, and the calls of the state that no command makes as they stand.
+/// Edits, commands of other kinds, moves, the calls of the state that no command makes as they stand, and lines to begin
+/// with.
 const CASES: &[Case] = &[
     (Nothing, "日|本", "SelfInsert(9, 'é')", "日ééééééééé|本"),
     (Nothing, "日|本", "Newline", "日\n|本"),
@@ -195,8 +185,18 @@ const CASES: &[Case] = &[
     (Hint, "日|本", "CompleteHint", "日本日|"),
     (Hint, "日|本", "AcceptLine", "日|本"),
     (Nothing, "日|本", "doing_insert; Newline; AcceptLine", "日\n|本"),
-    (Refusal, "日|本", "AcceptOrInsertLine(true)", "日|本"),
-    (Hint, "日|本", "AcceptOrInsertLine(false)", "日\n|本"),
+    (
+        Refusal,
+        "日|本",
+        "AcceptOrInsertLine { accept_in_the_middle: true }",
+        "日|本",
+    ),
+    (
+        Hint,
+        "日|本",
+        "AcceptOrInsertLine { accept_in_the_middle: false }",
+        "日\n|本",
+    ),
     (Hint, "日|本", "ClearScreen", "日|本"),
     (Hint, "日|本", "Repaint", "日|本"),
     (Hint, "日|本", "EndOfFile", "日|本"),
@@ -248,6 +248,9 @@ const CASES: &[Case] = &[
         "move_cursor_to_end; move_cursor MoveCursor",
         "日|本",
     ),
+    (Line("", 0), "|", "Noop", "|"),
+    (Line("日本", 3), "|", "Noop", "日|本"),
+    (Line("a\ne\u{301}", 5), "|", "Noop", "a\ne\u{301}|"),
 ];
 
 /// A refusal in what comes before the steps is no failure of the test.
@@ -255,35 +258,6 @@ const CASES: &[Case] = &[
 fn of_steps(rt: HostRuntime) -> std::result::Result<(), Fail> {
     for case in CASES {
         match tries(&rt, rt.alloc(), case) {
-            Ok(()) | Err(ReadlineError::Memory) => {}
-            Err(error) => panic!(rt; "{error}"),
-        }
-    }
-    Ok(())
-}
-
-/// An edit state to begin with, its cursor after so many bytes.
-fn is_made(rt: &impl Abort, alloc: Global, text: &str, cursor: usize) -> Result<()> {
-    assert!(rt; text.is_char_boundary(cursor));
-    let wanted = (&text[..cursor], &text[cursor..]);
-    let prompt = (
-        String::from_str(alloc, "> ")?,
-        String::from_str(alloc, "> ")?,
-    );
-    let history = Shelf::new(alloc, 0);
-    let mut screen = Recorder::new(alloc, 80, false, 0);
-    let context = Context::new(&history);
-    match State::with_line(alloc, &mut screen, &prompt, None, context, text, cursor) {
-        Ok(state) => holds(rt, at(rt, &state) == wanted, text, cursor),
-        Err(error) => return Err(error),
-    }
-    Ok(())
-}
-
-#[test]
-fn of_a_line_to_begin_with(rt: HostRuntime) -> std::result::Result<(), Fail> {
-    for (text, cursor) in [("", 0), ("日本", 3), ("a\ne\u{301}", 5)] {
-        match is_made(&rt, rt.alloc(), text, cursor) {
             Ok(()) | Err(ReadlineError::Memory) => {}
             Err(error) => panic!(rt; "{error}"),
         }

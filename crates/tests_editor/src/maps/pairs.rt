@@ -53,23 +53,6 @@ fn drawn(rt: &impl Abort, alloc: Global, seed: u32) -> Event {
     Event::KeySeq(keys)
 }
 
-/// Gives an event a number in the map, which answers the one that it had.
-fn bind(
-    rt: &impl Abort,
-    alloc: Global,
-    bindings: &mut Bindings,
-    event: Event,
-    own: u16,
-) -> Option<u16> {
-    let handler = EventHandler::from(Cmd::SelfInsert(own, 'x'));
-    number(
-        bindings
-            .insert(event, handler)
-            .expect(rt, "no fault")
-            .as_ref(),
-    )
-}
-
 /// Both answer the same of an event. One time in three they give it a number, and answer the one that it had. Events
 /// and numbers come of the numbers of a linear congruence, whose upper bits look mixed.
 #[test]
@@ -89,8 +72,9 @@ fn a_list_of_pairs_answers_the_same(rt: HostRuntime) {
         if own % 3 == 0 {
             let copy = event.clone(alloc).expect(&rt, "no fault");
             pairs.push((copy, own)).expect(&rt, "no fault");
-            let old = bind(&rt, alloc, &mut bindings, event, own);
-            holds(&rt, old == found, "a number", round);
+            let handler = EventHandler::from(Cmd::SelfInsert(own, 'x'));
+            let old = bindings.insert(event, handler).expect(&rt, "no fault");
+            holds(&rt, number(old.as_ref()) == found, "a number", round);
         }
     }
 }

@@ -2,7 +2,7 @@ use Rattle.line_editor.specs.Phrase.{of_mode}
 use Rattle.line_editor.specs.Tail.{by_last_change}
 use Rattle.std.proofs.Common.{[], refl, ◌∷◌}
 use Rattle.tests_editor.specs.Spoken.{plain}
-use Rattle.tests_editor.proofs.vi_phrases.the_last_change_again.Goals as goal
+use Rattle.tests_editor.proofs.vi_phrases.the_last_change.Goals as goal
 
 pub returns-clause-nothing : goal.returns-clause-nothing
 returns-clause-nothing c = λ environment. (
