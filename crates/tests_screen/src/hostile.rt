@@ -1,6 +1,6 @@
 //! Hostile use, as tables of cases, and lists of keys that are made from a number.
 
-mod bench;
+pub(crate) mod bench;
 mod commands;
 mod cuts;
 mod every;

@@ -1,11 +1,13 @@
 //! The queue of keys, by what it gives.
 
 use crate::holds;
-use line_config::ReadlineError;
-use line_keys::cmd::Cmd;
+use crate::hostile::bench::ended;
+use line_config::Result;
 use line_keys::keys::{KeyCode, KeyEvent, Modifiers};
 use line_keys::raw_reader::RawReader;
 use line_screen::KeyQueue;
+use std::alloc::Global;
+use std::fmt::Debug;
 
 const CTRL_A: KeyEvent = KeyEvent(KeyCode::Char('A'), Modifiers::CTRL);
 
@@ -17,152 +19,74 @@ const ENTER: KeyEvent = KeyEvent(KeyCode::Enter, Modifiers::NONE);
 
 const PASTE_START: KeyEvent = KeyEvent(KeyCode::BracketedPasteStart, Modifiers::NONE);
 
-/// A call of the queue. The names of those that read have what is read, or what is wrong.
+/// A call of the queue: what is handed over, a mark or the way back to it, a read of a key, a character, a pasted text
+/// or one that stands alone next, how many items there are and whether there is none, and what a key is bound to.
 enum Call {
     Press(KeyEvent),
     Type(&'static str),
     Paste(&'static str),
     Mark,
     Rewind,
-    ReadsKey(KeyEvent),
-    ReadsChar(char),
-    ReadsPasted(&'static str),
-    HasPasteNext(&'static str),
-    HasNoPasteNext,
-    FailsKey,
-    FailsChar,
-    FailsPasted,
-    Ends,
-    Has(usize),
-    Interrupts(KeyEvent),
-    EndsInput(KeyEvent),
-    BindsNot(KeyEvent),
+    Key(bool),
+    Char,
+    Pasted,
+    PasteNext,
+    Len,
+    Bound(KeyEvent),
 }
 
-/// Whether a read that gives nothing ends so: at the end of what is there so far, or by a failure.
-fn is_so(error: &ReadlineError, at_end: bool) -> bool {
-    match error {
-        ReadlineError::Eof => at_end,
-        ReadlineError::Io(_) => !at_end,
-        _ => false,
-    }
+/// What was answered, as text, or how the call ended.
+fn shown<T: Debug + Drop>(alloc: Global, outcome: Result<T>) -> Result<String> {
+    Ok(match outcome {
+        Ok(value) => format!(in alloc; "{value:?}")?,
+        Err(error) => String::from_str(alloc, ended(&Err(error)))?,
+    })
 }
 
-/// Whether this key is read, or none, since the read ends so.
-fn key(
-    queue: &mut KeyQueue,
-    single_esc_abort: bool,
-    wanted: Option<KeyEvent>,
-    at_end: bool,
-) -> bool {
-    let outcome = queue.next_key(single_esc_abort);
-    match &outcome {
-        Ok(read) => Some(*read) == wanted,
-        Err(error) => wanted.is_none() && is_so(error, at_end),
-    }
-}
-
-/// The same of a character.
-fn character(queue: &mut KeyQueue, wanted: Option<char>, at_end: bool) -> bool {
-    let outcome = queue.next_char();
-    match &outcome {
-        Ok(read) => Some(*read) == wanted,
-        Err(error) => wanted.is_none() && is_so(error, at_end),
-    }
-}
-
-/// The same of a pasted text.
-fn pasted(queue: &mut KeyQueue, wanted: Option<&str>, at_end: bool) -> bool {
-    let outcome = queue.read_pasted_text();
-    match &outcome {
-        Ok(read) => Some(read.as_str()) == wanted,
-        Err(error) => wanted.is_none() && is_so(error, at_end),
-    }
-}
-
-/// Whether this pasted text stands alone next, or none.
-fn is_next(queue: &mut KeyQueue, wanted: Option<&str>) -> bool {
-    let outcome = queue.next_paste();
-    let is_next = matches!(&outcome, Ok(next) if next.as_deref() == wanted);
-    is_next
-}
-
-/// Whether what a key is bound to is what the call says.
-fn is_said(bound: &Option<Cmd>, call: &Call) -> bool {
+/// Makes a call, and returns what is answered.
+fn answer(alloc: Global, queue: &mut KeyQueue, call: &Call) -> Result<String> {
     match call {
-        Call::Interrupts(_) => matches!(bound, Some(Cmd::Interrupt)),
-        Call::EndsInput(_) => matches!(bound, Some(Cmd::EndOfFile)),
-        Call::BindsNot(_) => bound.is_none(),
-        _ => false,
+        Call::Press(key) => shown(alloc, queue.press(*key)),
+        Call::Type(text) => shown(alloc, queue.type_text(text)),
+        Call::Paste(text) => shown(alloc, queue.paste(text)),
+        Call::Mark => shown(alloc, Ok(queue.mark())),
+        Call::Rewind => shown(alloc, Ok(queue.rewind())),
+        Call::Key(single_esc_abort) => shown(alloc, queue.next_key(*single_esc_abort)),
+        Call::Char => shown(alloc, queue.next_char()),
+        Call::Pasted => shown(alloc, queue.read_pasted_text()),
+        Call::PasteNext => shown(alloc, queue.next_paste()),
+        Call::Len => shown(alloc, Ok((queue.len(), queue.is_empty()))),
+        Call::Bound(key) => shown(alloc, Ok(queue.find_binding(key))),
     }
 }
 
-/// Whether a key is bound as the call says.
-fn is_bound(queue: &KeyQueue, key: &KeyEvent, call: &Call) -> bool {
-    let bound = queue.find_binding(key);
-    is_said(&bound, call)
-}
-
-/// Makes a call. Whether it reads, fails or has what is wanted.
-fn called(queue: &mut KeyQueue, call: &Call) -> bool {
-    match call {
-        Call::Press(key) => return queue.press(*key).is_ok(),
-        Call::Type(text) => return queue.type_text(text).is_ok(),
-        Call::Paste(text) => return queue.paste(text).is_ok(),
-        Call::Mark => queue.mark(),
-        Call::Rewind => queue.rewind(),
-        call => return reads(queue, call),
-    }
-    true
-}
-
-/// The same of a call that reads, or asks for what is there.
-fn reads(queue: &mut KeyQueue, call: &Call) -> bool {
-    match call {
-        Call::ReadsKey(wanted) => key(queue, false, Some(*wanted), false),
-        Call::ReadsChar(wanted) => character(queue, Some(*wanted), false),
-        Call::ReadsPasted(wanted) => pasted(queue, Some(*wanted), false),
-        Call::HasPasteNext(wanted) => is_next(queue, Some(*wanted)),
-        Call::HasNoPasteNext => is_next(queue, None),
-        Call::FailsKey => key(queue, true, None, false),
-        Call::FailsChar => character(queue, None, false),
-        Call::FailsPasted => pasted(queue, None, false),
-        Call::Ends => {
-            key(queue, false, None, true)
-                && character(queue, None, true)
-                && pasted(queue, None, true)
-        }
-        Call::Has(len) => queue.len() == *len && queue.is_empty() == (*len == 0),
-        Call::Interrupts(key) | Call::EndsInput(key) | Call::BindsNot(key) => {
-            is_bound(queue, key, call)
-        }
-        _ => false,
-    }
-}
-
-/// Whether the queue binds keys, calls, and how many failures there were.
-type Case = (bool, &'static [Call], u64);
+/// Whether the queue binds keys, calls with what is answered, and how many failures there were.
+type Case = (bool, &'static [(Call, &'static str)], u64);
 
 const CASES: &[Case] = &[
     (
         true,
         &[
-            Call::Has(0),
-            Call::Ends,
-            Call::Rewind,
-            Call::Mark,
-            Call::Has(0),
+            (Call::Len, "(0, true)"),
+            (Call::Key(false), "eof"),
+            (Call::Char, "eof"),
+            (Call::Pasted, "eof"),
+            (Call::Rewind, "()"),
+            (Call::Mark, "()"),
+            (Call::Len, "(0, true)"),
         ],
         0,
     ),
     (
         true,
         &[
-            Call::Press(CTRL_A),
-            Call::Has(1),
-            Call::ReadsKey(CTRL_A),
-            Call::Has(0),
-            Call::Ends,
+            (Call::Press(CTRL_A), "()"),
+            (Call::Len, "(1, false)"),
+            (Call::Key(false), "KeyEvent(Char('A'), Modifiers(8))"),
+            (Call::Len, "(0, true)"),
+            (Call::Key(false), "eof"),
+            (Call::Char, "eof"),
+            (Call::Pasted, "eof"),
         ],
         0,
     ),
@@ -170,82 +94,107 @@ const CASES: &[Case] = &[
     (
         true,
         &[
-            Call::Ends,
-            Call::Type("x"),
-            Call::ReadsChar('x'),
-            Call::Ends,
+            (Call::Key(false), "eof"),
+            (Call::Char, "eof"),
+            (Call::Pasted, "eof"),
+            (Call::Type("x"), "()"),
+            (Call::Char, "'x'"),
+            (Call::Key(false), "eof"),
+            (Call::Char, "eof"),
+            (Call::Pasted, "eof"),
         ],
         0,
     ),
     (
         true,
         &[
-            Call::Type("aé\n"),
-            Call::Type(""),
-            Call::Press(ENTER),
-            Call::Has(4),
-            Call::ReadsChar('a'),
-            Call::ReadsChar('é'),
-            Call::ReadsChar('\n'),
-            Call::ReadsKey(ENTER),
-            Call::Ends,
+            (Call::Type("aé\n"), "()"),
+            (Call::Type(""), "()"),
+            (Call::Press(ENTER), "()"),
+            (Call::Len, "(4, false)"),
+            (Call::Char, "'a'"),
+            (Call::Char, "'é'"),
+            (Call::Char, "'\\n'"),
+            (Call::Key(false), "KeyEvent(Enter, Modifiers(0))"),
+            (Call::Key(false), "eof"),
+            (Call::Char, "eof"),
+            (Call::Pasted, "eof"),
         ],
         0,
     ),
     (
         true,
         &[
-            Call::Paste("t\n"),
-            Call::Has(2),
-            Call::FailsPasted,
-            Call::FailsChar,
-            Call::ReadsKey(PASTE_START),
-            Call::FailsKey,
-            Call::FailsChar,
-            Call::ReadsPasted("t\n"),
-            Call::Ends,
+            (Call::Paste("t\n"), "()"),
+            (Call::Len, "(2, false)"),
+            (Call::Pasted, "fails"),
+            (Call::Char, "fails"),
+            (
+                Call::Key(false),
+                "KeyEvent(BracketedPasteStart, Modifiers(0))",
+            ),
+            (Call::Key(true), "fails"),
+            (Call::Char, "fails"),
+            (Call::Pasted, "\"t\\n\""),
+            (Call::Key(false), "eof"),
+            (Call::Char, "eof"),
+            (Call::Pasted, "eof"),
         ],
         4,
     ),
     (
         true,
-        &[Call::Press(CTRL_A), Call::FailsChar, Call::Has(1)],
+        &[
+            (Call::Press(CTRL_A), "()"),
+            (Call::Char, "fails"),
+            (Call::Len, "(1, false)"),
+        ],
         1,
     ),
     // a new queue has its mark at the start, and a pasted text can be read again
     (
         true,
         &[
-            Call::Paste("ab"),
-            Call::ReadsKey(PASTE_START),
-            Call::ReadsPasted("ab"),
-            Call::Rewind,
-            Call::Has(2),
-            Call::ReadsKey(PASTE_START),
-            Call::ReadsPasted("ab"),
-            Call::Ends,
+            (Call::Paste("ab"), "()"),
+            (
+                Call::Key(false),
+                "KeyEvent(BracketedPasteStart, Modifiers(0))",
+            ),
+            (Call::Pasted, "\"ab\""),
+            (Call::Rewind, "()"),
+            (Call::Len, "(2, false)"),
+            (
+                Call::Key(false),
+                "KeyEvent(BracketedPasteStart, Modifiers(0))",
+            ),
+            (Call::Pasted, "\"ab\""),
+            (Call::Key(false), "eof"),
+            (Call::Char, "eof"),
+            (Call::Pasted, "eof"),
         ],
         0,
     ),
     (
         true,
         &[
-            Call::Type("abc"),
-            Call::ReadsChar('a'),
-            Call::Mark,
-            Call::Has(2),
-            Call::ReadsChar('b'),
-            Call::Type("d"),
-            Call::Rewind,
-            Call::Has(3),
-            Call::ReadsChar('b'),
-            Call::Rewind,
-            Call::ReadsChar('b'),
-            Call::ReadsChar('c'),
-            Call::Mark,
-            Call::Rewind,
-            Call::ReadsChar('d'),
-            Call::Ends,
+            (Call::Type("abc"), "()"),
+            (Call::Char, "'a'"),
+            (Call::Mark, "()"),
+            (Call::Len, "(2, false)"),
+            (Call::Char, "'b'"),
+            (Call::Type("d"), "()"),
+            (Call::Rewind, "()"),
+            (Call::Len, "(3, false)"),
+            (Call::Char, "'b'"),
+            (Call::Rewind, "()"),
+            (Call::Char, "'b'"),
+            (Call::Char, "'c'"),
+            (Call::Mark, "()"),
+            (Call::Rewind, "()"),
+            (Call::Char, "'d'"),
+            (Call::Key(false), "eof"),
+            (Call::Char, "eof"),
+            (Call::Pasted, "eof"),
         ],
         0,
     ),
@@ -253,23 +202,33 @@ const CASES: &[Case] = &[
     (
         true,
         &[
-            Call::HasNoPasteNext,
-            Call::Paste("ab"),
-            Call::HasNoPasteNext,
-            Call::ReadsKey(PASTE_START),
-            Call::HasPasteNext("ab"),
-            Call::HasNoPasteNext,
-            Call::Ends,
-            Call::Rewind,
-            Call::ReadsKey(PASTE_START),
-            Call::Mark,
-            Call::Type("c"),
-            Call::HasPasteNext("ab"),
-            Call::ReadsChar('c'),
-            Call::Rewind,
-            Call::HasPasteNext("ab"),
-            Call::ReadsChar('c'),
-            Call::Ends,
+            (Call::PasteNext, "None"),
+            (Call::Paste("ab"), "()"),
+            (Call::PasteNext, "None"),
+            (
+                Call::Key(false),
+                "KeyEvent(BracketedPasteStart, Modifiers(0))",
+            ),
+            (Call::PasteNext, "Some(\"ab\")"),
+            (Call::PasteNext, "None"),
+            (Call::Key(false), "eof"),
+            (Call::Char, "eof"),
+            (Call::Pasted, "eof"),
+            (Call::Rewind, "()"),
+            (
+                Call::Key(false),
+                "KeyEvent(BracketedPasteStart, Modifiers(0))",
+            ),
+            (Call::Mark, "()"),
+            (Call::Type("c"), "()"),
+            (Call::PasteNext, "Some(\"ab\")"),
+            (Call::Char, "'c'"),
+            (Call::Rewind, "()"),
+            (Call::PasteNext, "Some(\"ab\")"),
+            (Call::Char, "'c'"),
+            (Call::Key(false), "eof"),
+            (Call::Char, "eof"),
+            (Call::Pasted, "eof"),
         ],
         0,
     ),
@@ -277,22 +236,34 @@ const CASES: &[Case] = &[
     (
         true,
         &[
-            Call::Interrupts(CTRL_C),
-            Call::EndsInput(CTRL_D),
-            Call::BindsNot(KeyEvent(KeyCode::Char('c'), Modifiers::CTRL)),
-            Call::BindsNot(KeyEvent(KeyCode::Char('C'), Modifiers::NONE)),
-            Call::BindsNot(ENTER),
+            (Call::Bound(CTRL_C), "Some(Interrupt)"),
+            (Call::Bound(CTRL_D), "Some(EndOfFile)"),
+            (
+                Call::Bound(KeyEvent(KeyCode::Char('c'), Modifiers::CTRL)),
+                "None",
+            ),
+            (
+                Call::Bound(KeyEvent(KeyCode::Char('C'), Modifiers::NONE)),
+                "None",
+            ),
+            (Call::Bound(ENTER), "None"),
         ],
         0,
     ),
     (
         false,
         &[
-            Call::BindsNot(CTRL_C),
-            Call::BindsNot(CTRL_D),
-            Call::BindsNot(KeyEvent(KeyCode::Char('c'), Modifiers::CTRL)),
-            Call::BindsNot(KeyEvent(KeyCode::Char('C'), Modifiers::NONE)),
-            Call::BindsNot(ENTER),
+            (Call::Bound(CTRL_C), "None"),
+            (Call::Bound(CTRL_D), "None"),
+            (
+                Call::Bound(KeyEvent(KeyCode::Char('c'), Modifiers::CTRL)),
+                "None",
+            ),
+            (
+                Call::Bound(KeyEvent(KeyCode::Char('C'), Modifiers::NONE)),
+                "None",
+            ),
+            (Call::Bound(ENTER), "None"),
         ],
         0,
     ),
@@ -306,9 +277,9 @@ fn gives_what_was_handed_over(rt: HostRuntime) {
         } else {
             KeyQueue::without_bindings(rt.alloc())
         };
-        for call in *calls {
-            let is_so = called(&mut queue, call);
-            holds(&rt, is_so, "a call", queue.len());
+        for (call, wanted) in *calls {
+            let answered = answer(rt.alloc(), &mut queue, call).expect(&rt, "no fault");
+            holds(&rt, answered.as_str() == *wanted, wanted, queue.len());
         }
         holds(&rt, queue.failures() == *failures, "failures", calls.len());
     }

@@ -10,71 +10,6 @@ use std::alloc::Global;
 use std::io::{self, Read, Write};
 use std::process::Abort;
 
-/// Scripts, and what is said of their bad line.
-const COMPLAINTS: &[(&str, &str)] = &[
-    (
-        "type a\nkey Left\nkey Foo\n",
-        "line 3: no key is called Foo\n",
-    ),
-    (
-        "key Enter\r\n",
-        "line 1: it ends in a carriage return; lines end in a line feed alone\n",
-    ),
-    (
-        "\r",
-        "line 1: it ends in a carriage return; lines end in a line feed alone\n",
-    ),
-    ("\n\nfoo bar", "line 3: no line begins with \"foo\"\n"),
-    ("foo", "line 1: no line begins with \"foo\"\n"),
-    (" type a", "line 1: no line begins with \"\"\n"),
-    (
-        "type a\n\nkey Enter\nkey\n",
-        "line 4: key needs a blank and a text behind it\n",
-    ),
-    ("hints on\n", "line 1: hints takes no text\n"),
-    (
-        "type a\nhints\n",
-        "line 2: the setting hints stands behind items\n",
-    ),
-    (
-        "paste a\nmode vi\n",
-        "line 2: the setting mode stands behind items\n",
-    ),
-    (
-        "load x\\q\n",
-        "line 1: a backslash has neither n nor a backslash behind it\n",
-    ),
-    (
-        "type x\\",
-        "line 1: a backslash has neither n nor a backslash behind it\n",
-    ),
-    (
-        "columns 9\n",
-        "line 1: columns are a number from 10 to 1000, and not \"9\"\n",
-    ),
-    (
-        "mode ed\n",
-        "line 1: the mode is emacs or vi, and not \"ed\"\n",
-    ),
-    ("type a\n", ""),
-];
-
-/// Plays a script, whose streams do not fail. Its status.
-fn played(alloc: Global, script: &str, out: &mut Vec<u8>, errors: &mut Vec<u8>) -> u8 {
-    play(alloc, script.as_bytes(), out, errors)
-}
-
-#[test]
-fn says_why_a_line_is_bad(rt: HostRuntime) {
-    for (script, said) in COMPLAINTS {
-        let mut out = Vec::new(rt.alloc());
-        let mut errors = Vec::new(rt.alloc());
-        let ended = played(rt.alloc(), script, &mut out, &mut errors);
-        let is_so = errors.as_slice() == said.as_bytes() && (ended == 4) != said.is_empty();
-        holds(&rt, is_so, script, usize::from(ended));
-    }
-}
-
 /// Which stream of a script fails.
 #[derive(Clone, Copy)]
 enum Fails {
@@ -83,14 +18,16 @@ enum Fails {
     Output,
 }
 
-/// The streams of a script: which of them fails, and how many bytes they give or take at once; and of what is printed,
-/// whether one write alone fails, or each from then on, and whether it can be flushed.
+/// The streams of a script: which of them fails, and how many bytes they give or take at once; of what is printed,
+/// whether one write alone fails, or each from then on, and whether it can be flushed; and whether it can be said why a
+/// line is bad.
 #[derive(Clone, Copy)]
 struct Streams {
     fails: Fails,
     at_once: usize,
     goes_on: bool,
     flushes: bool,
+    complains: bool,
 }
 
 const AT_ONCE: Streams = Streams {
@@ -98,6 +35,7 @@ const AT_ONCE: Streams = Streams {
     at_once: usize::MAX,
     goes_on: false,
     flushes: true,
+    complains: false,
 };
 
 /// All is given and taken, at once or byte by byte.
@@ -108,6 +46,12 @@ const WHOLE: &[Streams] = &[
         ..AT_ONCE
     },
 ];
+
+/// The same, at once, and it can be said why a line is bad.
+const SAID: &[Streams] = &[Streams {
+    complains: true,
+    ..AT_ONCE
+}];
 
 /// The script is cut, its bytes together or one by one.
 const CUT: &[Streams] = &[
@@ -162,22 +106,12 @@ impl Read for Input {
 }
 
 /// The stream of what is printed, of which the write after so many fails.
+#[derive(Drop)]
 struct Output {
     bytes: Vec<u8>,
     streams: Streams,
     writes: usize,
     failing: usize,
-}
-
-impl Drop for Output {
-    fn drop(self) {
-        let Output {
-            bytes: _,
-            streams: _,
-            writes: _,
-            failing: _,
-        } = self;
-    }
 }
 
 impl Write for Output {
@@ -203,8 +137,15 @@ impl Write for Output {
     }
 }
 
-/// The streams of a script, the script, what is printed where they do not fail, and the status then.
-type Case = (&'static [Streams], &'static str, &'static str, u8);
+/// The streams of a script, the script, what is printed where they do not fail, what is said of a bad line, and the
+/// status then.
+type Case = (
+    &'static [Streams],
+    &'static str,
+    &'static str,
+    &'static str,
+    u8,
+);
 
 /// Each outcome, bad lines, and what stands after a submit, which has to be good too.
 const CASES: &[Case] = &[
@@ -212,44 +153,51 @@ const CASES: &[Case] = &[
         WHOLE,
         "type ab\nkey Left\ntype c\nkey Enter\n",
         "outcome submitted\nline acb\ncursor 2\nplace 0\nat 0 4\nredraws 2\n",
+        "",
         0,
     ),
     (
         WHOLE,
         "",
         "outcome eof\nline \ncursor 0\nplace 0\nat 0 2\nredraws 1\n",
+        "",
         1,
     ),
     (
         WHOLE,
         "type ab\nkey C-a\nkey C-c\n",
         "outcome interrupted\nline ab\ncursor 0\nplace 0\nat 0 4\nredraws 1\n",
+        "",
         2,
     ),
     (
         WHOLE,
         "key PasteStart\nkey C-d\n",
         "outcome fault\nline \ncursor 0\nplace 0\nat 0 2\nredraws 1\n",
+        "",
         3,
     ),
     (
         WHOLE,
         "type a\nkey Left\nkey Foo\n",
         "bad script line 3\n",
+        "",
         4,
     ),
-    (WHOLE, "type a\nhistory a\n", "bad script line 2\n", 4),
-    (WHOLE, "load x\\q\n", "bad script line 1\n", 4),
+    (WHOLE, "type a\nhistory a\n", "bad script line 2\n", "", 4),
+    (WHOLE, "load x\\q\n", "bad script line 1\n", "", 4),
     (
         WHOLE,
         "type a\n\nkey Enter\nkey\n",
         "bad script line 4\n",
+        "",
         4,
     ),
     (
         WHOLE,
         "paste a\\nb\n",
         "outcome eof\nline a\\nb\ncursor 3\nplace 0\nat 1 1\nredraws 2\n",
+        "",
         1,
     ),
     // the ring has 60 slots: the 61st kill takes the first one's place, and the 60th step back comes to where it began
@@ -258,6 +206,7 @@ const CASES: &[Case] = &[
         "type 1\nkey C-u\ntype 2\nkey C-u\ntype 3\nkey C-u\ntype 4\nkey C-u\nkey C-y\nkey M-y\nkey M-y\n\
          key M-y\n",
         "outcome eof\nline 1\ncursor 1\nplace 0\nat 0 3\nredraws 5\n",
+        "",
         1,
     ),
     (
@@ -280,6 +229,7 @@ const CASES: &[Case] = &[
          key M-y\nkey M-y\nkey M-y\nkey M-y\nkey M-y\nkey M-y\nkey M-y\nkey M-y\nkey M-y\nkey M-y\nkey M-y\n\
          key M-y\nkey M-y\nkey M-y\nkey M-y\n",
         "outcome eof\nline 1\ncursor 1\nplace 0\nat 0 3\nredraws 61\n",
+        "",
         1,
     ),
     (
@@ -302,6 +252,7 @@ const CASES: &[Case] = &[
          key M-y\nkey M-y\nkey M-y\nkey M-y\nkey M-y\nkey M-y\nkey M-y\nkey M-y\nkey M-y\nkey M-y\nkey M-y\n\
          key M-y\nkey M-y\nkey M-y\nkey M-y\nkey M-y\nkey M-y\n",
         "outcome eof\nline 2\ncursor 1\nplace 0\nat 0 3\nredraws 61\n",
+        "",
         1,
     ),
     (
@@ -324,27 +275,135 @@ const CASES: &[Case] = &[
          key M-y\nkey M-y\nkey M-y\nkey M-y\nkey M-y\nkey M-y\nkey M-y\nkey M-y\nkey M-y\nkey M-y\nkey M-y\n\
          key M-y\nkey M-y\nkey M-y\nkey M-y\nkey M-y\nkey M-y\nkey M-y\n",
         "outcome eof\nline 61\ncursor 2\nplace 0\nat 0 4\nredraws 62\n",
+        "",
+        1,
+    ),
+    // what is said of a bad line
+    (
+        SAID,
+        "type a\nkey Left\nkey Foo\n",
+        "bad script line 3\n",
+        "line 3: no key is called Foo\n",
+        4,
+    ),
+    (
+        SAID,
+        "key Enter\r\n",
+        "bad script line 1\n",
+        "line 1: it ends in a carriage return; lines end in a line feed alone\n",
+        4,
+    ),
+    (
+        SAID,
+        "\r",
+        "bad script line 1\n",
+        "line 1: it ends in a carriage return; lines end in a line feed alone\n",
+        4,
+    ),
+    (
+        SAID,
+        "\n\nfoo bar",
+        "bad script line 3\n",
+        "line 3: no line begins with \"foo\"\n",
+        4,
+    ),
+    (
+        SAID,
+        "foo",
+        "bad script line 1\n",
+        "line 1: no line begins with \"foo\"\n",
+        4,
+    ),
+    (
+        SAID,
+        " type a",
+        "bad script line 1\n",
+        "line 1: no line begins with \"\"\n",
+        4,
+    ),
+    (
+        SAID,
+        "type a\n\nkey Enter\nkey\n",
+        "bad script line 4\n",
+        "line 4: key needs a blank and a text behind it\n",
+        4,
+    ),
+    (
+        SAID,
+        "hints on\n",
+        "bad script line 1\n",
+        "line 1: hints takes no text\n",
+        4,
+    ),
+    (
+        SAID,
+        "type a\nhints\n",
+        "bad script line 2\n",
+        "line 2: the setting hints stands behind items\n",
+        4,
+    ),
+    (
+        SAID,
+        "paste a\nmode vi\n",
+        "bad script line 2\n",
+        "line 2: the setting mode stands behind items\n",
+        4,
+    ),
+    (
+        SAID,
+        "load x\\q\n",
+        "bad script line 1\n",
+        "line 1: a backslash has neither n nor a backslash behind it\n",
+        4,
+    ),
+    (
+        SAID,
+        "type x\\",
+        "bad script line 1\n",
+        "line 1: a backslash has neither n nor a backslash behind it\n",
+        4,
+    ),
+    (
+        SAID,
+        "columns 9\n",
+        "bad script line 1\n",
+        "line 1: columns are a number from 10 to 1000, and not \"9\"\n",
+        4,
+    ),
+    (
+        SAID,
+        "mode ed\n",
+        "bad script line 1\n",
+        "line 1: the mode is emacs or vi, and not \"ed\"\n",
+        4,
+    ),
+    (
+        SAID,
+        "type a\n",
+        "outcome eof\nline a\ncursor 1\nplace 0\nat 0 3\nredraws 1\n",
+        "",
         1,
     ),
     // good or bad by where they are cut
-    (CUT, "", "", 3),
-    (CUT, "history é\n\ntype a\nkey Enter\n", "", 3),
-    (CUT, "key\n", "", 3),
+    (CUT, "", "", "", 3),
+    (CUT, "history é\n\ntype a\nkey Enter\n", "", "", 3),
+    (CUT, "key\n", "", "", 3),
     // where no write fails
     (
         BROKEN,
         "type a\nkey Enter\n",
         "outcome submitted\nline a\ncursor 1\nplace 0\nat 0 3\nredraws 1\n",
+        "",
         0,
     ),
-    (BROKEN, "key\n", "bad script line 1\n", 4),
+    (BROKEN, "key\n", "bad script line 1\n", "", 4),
 ];
 
 /// Plays a script, of whose streams one fails after so many bytes: what is printed is a beginning of the whole, and
-/// nothing where the script can't be read; and the status is that of a fault, if one fails. Nothing can be said of a
-/// bad line.
+/// nothing where the script can't be read; the status is that of a fault, if one fails; and where it can be said why a
+/// line is bad, it is.
 fn plays(rt: &impl Abort, alloc: Global, case: Case, streams: Streams, at: usize) {
-    let (_, script, whole, status) = case;
+    let (_, script, whole, said, status) = case;
     let (cut, failing) = match streams.fails {
         Fails::Nothing => (usize::MAX, usize::MAX),
         Fails::Input => (at, usize::MAX),
@@ -366,14 +425,16 @@ fn plays(rt: &impl Abort, alloc: Global, case: Case, streams: Streams, at: usize
         bytes: Vec::new(alloc),
         streams: AT_ONCE,
         writes: 0,
-        failing: 0,
+        failing: if streams.complains { usize::MAX } else { 0 },
     };
     let ended = play(alloc, input, &mut out, &mut errors);
     let printed = if is_cut { 0 } else { failing.min(whole.len()) };
     let is_whole = !is_cut && printed == whole.len() && streams.flushes;
     let wanted = if is_whole { status } else { 3 };
-    let is_so = whole.as_bytes().get(..printed) == Some(out.bytes.as_slice()) && ended == wanted;
-    holds(rt, is_so, script, at);
+    let is_printed = whole.as_bytes().get(..printed) == Some(out.bytes.as_slice());
+    let said = if streams.complains { said } else { "" };
+    let is_said = errors.bytes.as_slice() == said.as_bytes();
+    holds(rt, is_printed && is_said && ended == wanted, script, at);
 }
 
 /// Plays each script with each of its streams, which fail after each number of bytes.
@@ -450,7 +511,7 @@ fn ends_by_a_fault_alone_where_memory_is_refused(rt: HostRuntime) {
     for (script, whole, status) in GOOD {
         let mut out = Vec::new(rt.alloc());
         let mut errors = Vec::new(rt.alloc());
-        let ended = played(rt.alloc(), script, &mut out, &mut errors);
+        let ended = play(rt.alloc(), script.as_bytes(), &mut out, &mut errors);
         let shown = str::from_utf8(&out).unwrap_or("no text");
         let is_good = ended < 4 && !shown.starts_with("bad") && shown != "no text";
         let is_right = if whole.is_empty() {

@@ -121,16 +121,6 @@ pub(crate) enum To {
     Asks(bool, u64, Fault),
 }
 
-/// What calls a handler: the keys, each one or a sequence. No keys stand for every key.
-fn event(alloc: Global, keys: &[KeyEvent]) -> Result<Event> {
-    if keys.is_empty() {
-        return Ok(Event::Any);
-    }
-    let mut sequence = Vec::new(alloc);
-    sequence.extend_from_slice(keys)?;
-    Ok(Event::KeySeq(sequence))
-}
-
 /// What is done by the keys that are bound so.
 fn handler(alloc: Global, to: To) -> Result<EventHandler> {
     Ok(match to {
@@ -145,22 +135,21 @@ fn handler(alloc: Global, to: To) -> Result<EventHandler> {
     })
 }
 
-/// Binds keys.
-fn bind(alloc: Global, bindings: &mut Bindings, keys: &[KeyEvent], to: To) -> Result<()> {
-    let event = event(alloc, keys)?;
-    let handler = handler(alloc, to)?;
-    let _ = bindings.insert(event, handler)?;
-    Ok(())
-}
-
-/// Binds keys, each one or a sequence, in a map of bindings.
+/// Binds keys, each one or a sequence, in a map of bindings. No keys stand for every key.
 pub(crate) fn bind_all(
     alloc: Global,
     bindings: &mut Bindings,
     bound: &[(&[KeyEvent], To)],
 ) -> Result<()> {
     for (keys, to) in bound {
-        bind(alloc, bindings, keys, *to)?;
+        let mut sequence = Vec::new(alloc);
+        sequence.extend_from_slice(keys)?;
+        let event = if keys.is_empty() {
+            Event::Any
+        } else {
+            Event::KeySeq(sequence)
+        };
+        let _ = bindings.insert(event, handler(alloc, *to)?)?;
     }
     Ok(())
 }
@@ -282,33 +271,25 @@ pub(crate) fn ended(outcome: &Result<()>) -> &'static str {
 /// An editor of which a call may fail.
 pub(crate) type Editor<'out, 'prompt, W> = State<'out, 'prompt, W, Guide, &'static str, Shelf>;
 
-/// What an editor has: the line with its cursor, the history index, and the kept layout.
-#[derive(Clone, Copy)]
-pub(crate) struct Seen<'s> {
+/// What an editor has: the line with its cursor, the history index, the kept layout, and the screen as the last drawing
+/// left it.
+#[derive(Drop)]
+pub(crate) struct Seen<'s, W> {
     pub(crate) line: &'s str,
     pub(crate) pos: usize,
     pub(crate) place: usize,
     pub(crate) layout: &'s Layout,
+    pub(crate) screen: &'s W,
 }
 
 /// What an editor has.
-pub(crate) fn look<'s, W: Renderer>(state: &'s Editor<'_, '_, W>) -> Seen<'s> {
+pub(crate) fn look<'s, W: Renderer>(state: &'s Editor<'_, '_, W>) -> Seen<'s, W> {
     Seen {
         line: state.line(),
         pos: state.pos(),
         place: state.place(),
         layout: state.layout(),
-    }
-}
-
-/// The line with its cursor, the history index, what a yank would give, and how it ended.
-type Told<'l> = (&'l str, usize, usize, Option<&'l str>, &'static str);
-
-impl Left {
-    /// What is the same whichever way items are read.
-    fn told(&self) -> Told<'_> {
-        let yanked = self.yanked.as_deref();
-        (self.line.as_str(), self.pos, self.place, yanked, self.end)
+        screen: state.out(),
     }
 }
 
@@ -326,9 +307,12 @@ pub(crate) fn agree(
     let mut is_well = left.amiss.is_empty();
     for way in others {
         let other = left_by(rt, alloc, desk, Work::Reads(*way, items));
+        let is_line = (other.line.as_str(), other.pos) == (left.line.as_str(), left.pos);
+        let is_yanked = other.yanked.as_deref() == left.yanked.as_deref();
+        let is_end = (other.place, other.end) == (left.place, left.end);
         let draws_alike = !matches!(way, Way::Run) || other.redraws == left.redraws;
-        let is_same = other.told() == left.told();
-        is_well = is_well && is_same && draws_alike && other.amiss.is_empty();
+        let is_same = is_line && is_yanked && is_end && draws_alike;
+        is_well = is_well && is_same && other.amiss.is_empty();
     }
     is_well.then_some(left.end)
 }
@@ -341,40 +325,21 @@ pub(crate) fn left_by(rt: &impl Abort, alloc: Global, desk: &Desk, work: Work<'_
     let (text, cursor) = desk.start;
     assert!(rt; desk.columns > 0 && text.is_char_boundary(cursor));
     let history = shelf(alloc, desk.entries).expect(rt, "no fault");
+    let mut bindings = Bindings::new(alloc);
+    bind_all(alloc, &mut bindings, desk.bound).expect(rt, "no fault");
     let mut screen = Plain::new(alloc, desk.columns);
     let mut helper = Guide::new(desk.hints, desk.brackets);
     let (helper, context) = (Some(&mut helper), Context::new(&history));
-    let state = State::with_line(
-        alloc,
-        &mut screen,
-        &desk.prompt,
-        helper,
-        context,
-        text,
-        cursor,
-    )
-    .expect(rt, "no fault");
-    sits(rt, alloc, desk, state, work)
-}
-
-fn sits(
-    rt: &impl Abort,
-    alloc: Global,
-    desk: &Desk,
-    state: Editor<'_, '_, Plain<KeyQueue>>,
-    work: Work<'_>,
-) -> Left {
-    let mut bindings = Bindings::new(alloc);
-    bind_all(alloc, &mut bindings, desk.bound).expect(rt, "no fault");
+    let prompt = &desk.prompt;
+    let state = State::with_line(alloc, &mut screen, prompt, helper, context, text, cursor);
     let config = Config::builder(GraphemeClusterMode::Unicode)
         .edit_mode(desk.style)
         .build();
-    let input = InputState::new(&config, &bindings);
     let mut bench = Bench {
         alloc,
         desk: *desk,
-        state,
-        input,
+        state: state.expect(rt, "no fault"),
+        input: InputState::new(&config, &bindings),
         keys: KeyQueue::new(alloc),
         kills: KillRing::new(alloc, 60),
         config,
@@ -423,16 +388,6 @@ impl Drop for Bench<'_, '_, '_> {
 }
 
 impl Bench<'_, '_, '_> {
-    /// What the editor has.
-    fn seen(&self) -> Seen<'_> {
-        look(&self.state)
-    }
-
-    /// The screen, as the last drawing left it.
-    fn screen(&self) -> &Plain<KeyQueue> {
-        self.state.out()
-    }
-
     /// Does its work, and returns what is left. The Esc that leads to Vi's command mode is read first, where that is
     /// wanted, and the move that it stands for is not executed. Before a run nothing is drawn.
     fn does(&mut self, rt: &impl Abort, work: Work<'_>) -> Left {
@@ -494,7 +449,7 @@ impl Bench<'_, '_, '_> {
         }
         self.keys.rewind();
         for _ in 0..70 {
-            let before = (self.screen().redraws(), self.keys.len());
+            let before = (look(&self.state).screen.redraws(), self.keys.len());
             let (input, keys, kills) = (&mut self.input, &mut self.keys, &mut self.kills);
             let end = match advance(&mut self.state, input, keys, kills, &self.config) {
                 Ok(Turned::Proceeds) => "proceeds",
@@ -522,10 +477,11 @@ impl Bench<'_, '_, '_> {
             line,
             pos,
             place,
-            ..
-        } = self.seen();
+            layout: _,
+            screen,
+        } = look(&self.state);
         let read = before.1.saturating_sub(self.keys.len()) as u64;
-        let drawn = self.screen().redraws().saturating_sub(before.0);
+        let drawn = screen.redraws().saturating_sub(before.0);
         if drawn > read.saturating_add(3) {
             "the number of redraws"
         } else if place > self.desk.entries.len() {
@@ -568,20 +524,26 @@ impl Bench<'_, '_, '_> {
         if proceed { "proceeds" } else { "submits" }
     }
 
-    /// Whether the layout is a full redraw's with what stands after the line, and the screen shows the line after the prompt,
-    /// with its cursor there.
+    /// Whether the layout is a full redraw's with what stands after the line, and the screen shows the line after the
+    /// prompt, with its cursor there.
     fn is_drawn(&self, rt: &impl Abort) -> bool {
         let Seen {
             line,
             pos,
-            layout,
-            ..
-        } = self.seen();
+            place: _,
+            layout: kept,
+            screen,
+        } = look(&self.state);
         if !line.is_char_boundary(pos) {
             return false;
         }
-        let line = LineBuffer::init(self.alloc, line, pos).expect(rt, "no fault");
-        is_drawn_so(self.screen(), self.desk.prompt, &line, layout)
+        let buffer = LineBuffer::init(self.alloc, line, pos).expect(rt, "no fault");
+        let prompt_end = screen.calculate_position(self.desk.prompt, ORIGIN);
+        let layout = screen.compute_layout(prompt_end, true, &buffer, screen.hint());
+        let shows_so = screen.prompt() == self.desk.prompt && screen.text() == line;
+        let is_placed = screen.cursor() == kept.cursor && kept.prompt_size == prompt_end;
+        let is_laid = kept.cursor == layout.cursor && kept.end == layout.end;
+        shows_so && is_placed && is_laid && kept.has_info == layout.has_info
     }
 
     /// What is left after this end. Then all is taken back. What proceeded was looked at last.
@@ -590,17 +552,18 @@ impl Bench<'_, '_, '_> {
             self.amiss = "a failure of the reader";
         }
         let is_drawn = end == "proceeds" || self.is_drawn(rt);
-        let redraws = self.screen().redraws();
         let Seen {
             line,
             pos,
             place,
             layout,
-        } = self.seen();
+            screen,
+        } = look(&self.state);
+        let redraws = screen.redraws();
         let at = (layout.cursor.row, layout.cursor.col);
         let line = String::from_str(self.alloc, line).expect(rt, "no fault");
         let _ = self.makes(rt, Cmd::Undo(65535));
-        if self.seen().line != self.desk.start.0 {
+        if look(&self.state).line != self.desk.start.0 {
             self.amiss = "what was taken back";
         }
         let yanked = match self.kills.yank() {
@@ -620,14 +583,4 @@ impl Bench<'_, '_, '_> {
             amiss: self.amiss,
         }
     }
-}
-
-/// Whether a screen shows a line after the prompt, and the layout that is kept of it is a full redraw's.
-fn is_drawn_so(screen: &Plain<KeyQueue>, prompt: &str, line: &LineBuffer, kept: &Layout) -> bool {
-    let prompt_end = screen.calculate_position(prompt, ORIGIN);
-    let layout = screen.compute_layout(prompt_end, true, line, screen.hint());
-    let shows_so = screen.prompt() == prompt && screen.text() == line.as_str();
-    let is_placed = screen.cursor() == kept.cursor && kept.prompt_size == prompt_end;
-    let is_laid = kept.cursor == layout.cursor && kept.end == layout.end;
-    shows_so && is_placed && is_laid && kept.has_info == layout.has_info
 }

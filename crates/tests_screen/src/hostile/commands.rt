@@ -13,10 +13,10 @@ use std::alloc::Global;
 use std::process::Abort;
 
 /// Where two words change places by a count: where the text begins that differs, how it goes on, and the cursor then.
-type Swap = (RepeatCount, (usize, &'static str, usize));
+type Swap = (usize, &'static str, usize);
 
-/// A text, a cursor in it, and each count with the words that change places by it.
-type Place = (&'static str, usize, &'static [Swap]);
+/// A text, a cursor in it, a count, and the words that change places by it.
+type Place = (&'static str, usize, RepeatCount, Swap);
 
 /// A text, a cursor in it, what was killed before, a movement with its cell, and a count with the words that change
 /// places.
@@ -27,6 +27,7 @@ struct Case<'m> {
     killed: &'static str,
     movement: &'m Movement,
     cell: Cell,
+    count: RepeatCount,
     swap: Swap,
 }
 
@@ -77,28 +78,21 @@ const WITH_COUNTS: &[Op] = &[
 /// What was killed before a command with a count.
 const KILLED: &str = "é";
 
-/// The movement of a case.
-fn movement(rt: &impl Abort, case: Case<'_>) -> Movement {
-    case.movement.clone().expect(rt, "no fault")
-}
-
-/// A text of its own.
-fn owned(rt: &impl Abort, alloc: Global, text: &str) -> String {
-    String::from_str(alloc, text).expect(rt, "no fault")
-}
-
 /// The command of an operation.
 fn command(rt: &impl Abort, alloc: Global, case: Case<'_>, op: Op) -> Cmd {
-    let n = case.swap.0;
+    let movement = case.movement.clone().expect(rt, "no fault");
+    let text = if matches!(op, Op::Puts) { "e" } else { "x" };
+    let text = String::from_str(alloc, text).expect(rt, "no fault");
+    let n = case.count;
     match op {
-        Op::Moves => Cmd::Move(movement(rt, case)),
-        Op::Kills => Cmd::Kill(movement(rt, case)),
-        Op::Replaces => Cmd::Replace(movement(rt, case), Some(owned(rt, alloc, "x"))),
-        Op::Copies => Cmd::ViYankTo(movement(rt, case)),
-        Op::Indents => Cmd::Indent(movement(rt, case)),
-        Op::Dedents => Cmd::Dedent(movement(rt, case)),
+        Op::Moves => Cmd::Move(movement),
+        Op::Kills => Cmd::Kill(movement),
+        Op::Replaces => Cmd::Replace(movement, Some(text)),
+        Op::Copies => Cmd::ViYankTo(movement),
+        Op::Indents => Cmd::Indent(movement),
+        Op::Dedents => Cmd::Dedent(movement),
         Op::Types => Cmd::SelfInsert(n, '-'),
-        Op::Puts => Cmd::Insert(n, owned(rt, alloc, "e")),
+        Op::Puts => Cmd::Insert(n, text),
         Op::PutsOver => Cmd::ReplaceChar(n, 'x'),
         Op::Yanks => Cmd::Yank(n, Anchor::Before),
         Op::YanksBehind => Cmd::Yank(n, Anchor::After),
@@ -156,7 +150,7 @@ fn wanted(case: Case<'_>, op: Op, takes_commands: bool) -> Splice {
         }
         (Op::Dedents, _) => (0, 0, "", cursor),
         (Op::Transposes, _) => {
-            let (from, by, pos) = case.swap.1;
+            let (from, by, pos) = case.swap;
             (from, text.len(), by, pos)
         }
         _ => return counted(case, op, takes_commands),
@@ -172,7 +166,7 @@ fn wanted(case: Case<'_>, op: Op, takes_commands: bool) -> Splice {
 
 /// The same of one with a count.
 fn counted(case: Case<'_>, op: Op, takes_commands: bool) -> Splice {
-    let (text, cursor, n) = (case.text, case.cursor, usize::from(case.swap.0));
+    let (text, cursor, n) = (case.text, case.cursor, usize::from(case.count));
     let rest = text.get(cursor..).unwrap_or("");
     let behind_next = match rest.chars().next() {
         Some(c) => cursor.saturating_add(c.len_utf8()),
@@ -258,7 +252,7 @@ fn in_each(rt: &impl Abort, alloc: Global, case: Case<'_>, ops: &[Op]) {
         let makes_long = matches!(op, Op::Types | Op::Puts | Op::Yanks | Op::YanksBehind);
         for (style, takes_commands) in MODES {
             let takes_commands = *takes_commands;
-            if makes_long && case.swap.0 == 65535 && !takes_commands {
+            if makes_long && case.count == 65535 && !takes_commands {
                 continue;
             }
             let desk = Desk {
@@ -281,8 +275,8 @@ const MODES: &[(EditMode, bool)] = &[
     (EditMode::Vi, true),
 ];
 
-/// A text, a cursor in it, and which of a movement's cells is that of this cursor. On an empty line there is none, since
-/// each movement leads nowhere.
+/// A text, a cursor in it, and which of a movement's cells is that of this cursor. On an empty line there is none,
+/// since each movement leads nowhere.
 type Spot = (&'static str, usize, usize);
 
 /// Each movement, from each of these cursors.
@@ -296,26 +290,10 @@ fn by_movements(rt: &impl Abort, alloc: Global, spots: &[Spot], rows: &[Row]) {
                 killed: "",
                 movement,
                 cell: *cells.get(*index).unwrap_or(&(0, 0, 0)),
-                swap: (0, (0, "", 0)),
+                count: 0,
+                swap: (0, "", 0),
             };
             in_each(rt, alloc, case, WITH_MOVEMENTS);
-        }
-    }
-}
-
-/// Each command with a count, with each count, at each of these places.
-fn by_counts(rt: &impl Abort, alloc: Global, places: &[Place]) {
-    for (text, cursor, swaps) in places {
-        for swap in *swaps {
-            let case = Case {
-                text,
-                cursor: *cursor,
-                killed: KILLED,
-                movement: &WholeLine,
-                cell: (0, 0, 0),
-                swap: *swap,
-            };
-            in_each(rt, alloc, case, WITH_COUNTS);
         }
     }
 }
@@ -332,60 +310,29 @@ const SWAPPED: &str =
      ab, ab, ab, ab, ab, ab, ab, ab, ab, ab, ab, ab, ab, ab, ab, ab, ab, ab, ab, ab, ab, ab, ab, ab, \
      ab, ab, ab, ab, ab, ab, ab, ab, ab, ab, ab, ab, ab, ab, ab, ab, ab, ab, ab, ab, ab, ab, ab, ab, ab, ab";
 
-const STARTS: &[Place] = &[
-    (
-        "é日\n",
-        0,
-        &[(0, (6, "", 5)), (1, (6, "", 5)), (65535, (6, "", 5))],
-    ),
-    (
-        LONG,
-        0,
-        &[
-            (0, (300, "", 2)),
-            (1, (300, "", 2)),
-            (65535, (0, SWAPPED, 300)),
-        ],
-    ),
-];
-
-const MIDDLES: &[Place] = &[
-    (
-        "é日\n",
-        2,
-        &[(0, (6, "", 5)), (1, (6, "", 5)), (65535, (6, "", 5))],
-    ),
-    (
-        LONG,
-        150,
-        &[
-            (0, (300, "", 150)),
-            (1, (300, "", 154)),
-            (65535, (0, SWAPPED, 300)),
-        ],
-    ),
-];
-
-const ENDS: &[Place] = &[
-    (
-        "",
-        0,
-        &[(0, (0, "", 0)), (1, (0, "", 0)), (65535, (0, "", 0))],
-    ),
-    (
-        "é日\n",
-        6,
-        &[(0, (6, "", 5)), (1, (6, "", 5)), (65535, (6, "", 5))],
-    ),
-    (
-        LONG,
-        300,
-        &[
-            (0, (300, "", 298)),
-            (1, (292, "ab, , ab", 300)),
-            (65535, (0, SWAPPED, 300)),
-        ],
-    ),
+/// At the start, in the middle and at the end of both texts, and on an empty line, with each count.
+const PLACES: &[Place] = &[
+    ("é日\n", 0, 0, (6, "", 5)),
+    ("é日\n", 0, 1, (6, "", 5)),
+    ("é日\n", 0, 65535, (6, "", 5)),
+    (LONG, 0, 0, (300, "", 2)),
+    (LONG, 0, 1, (300, "", 2)),
+    (LONG, 0, 65535, (0, SWAPPED, 300)),
+    ("é日\n", 2, 0, (6, "", 5)),
+    ("é日\n", 2, 1, (6, "", 5)),
+    ("é日\n", 2, 65535, (6, "", 5)),
+    (LONG, 150, 0, (300, "", 150)),
+    (LONG, 150, 1, (300, "", 154)),
+    (LONG, 150, 65535, (0, SWAPPED, 300)),
+    ("", 0, 0, (0, "", 0)),
+    ("", 0, 1, (0, "", 0)),
+    ("", 0, 65535, (0, "", 0)),
+    ("é日\n", 6, 0, (6, "", 5)),
+    ("é日\n", 6, 1, (6, "", 5)),
+    ("é日\n", 6, 65535, (6, "", 5)),
+    (LONG, 300, 0, (300, "", 298)),
+    (LONG, 300, 1, (292, "ab, , ab", 300)),
+    (LONG, 300, 65535, (0, SWAPPED, 300)),
 ];
 
 /// At the start, in the middle and at the end of a text of two lines, and on an empty line.
@@ -395,26 +342,23 @@ const IN_SHORT_LINES: &[Spot] = &[("é日\n", 0, 0), ("é日\n", 2, 1), ("é日\
 const IN_A_LONG_LINE: &[Spot] = &[(LONG, 0, 0), (LONG, 150, 1), (LONG, 300, 2)];
 
 #[test]
-fn move_in_short_lines(rt: HostRuntime) {
+fn do_what_movements_say(rt: HostRuntime) {
     by_movements(&rt, rt.alloc(), IN_SHORT_LINES, OF_TWO);
-}
-
-#[test]
-fn move_in_a_long_line(rt: HostRuntime) {
     by_movements(&rt, rt.alloc(), IN_A_LONG_LINE, OF_LONG);
 }
 
 #[test]
-fn count_at_the_start(rt: HostRuntime) {
-    by_counts(&rt, rt.alloc(), STARTS);
-}
-
-#[test]
-fn count_in_the_middle(rt: HostRuntime) {
-    by_counts(&rt, rt.alloc(), MIDDLES);
-}
-
-#[test]
-fn count_at_the_end(rt: HostRuntime) {
-    by_counts(&rt, rt.alloc(), ENDS);
+fn do_what_counts_say(rt: HostRuntime) {
+    for (text, cursor, count, swap) in PLACES {
+        let case = Case {
+            text,
+            cursor: *cursor,
+            killed: KILLED,
+            movement: &WholeLine,
+            cell: (0, 0, 0),
+            count: *count,
+            swap: *swap,
+        };
+        in_each(&rt, rt.alloc(), case, WITH_COUNTS);
+    }
 }

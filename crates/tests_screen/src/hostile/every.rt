@@ -11,7 +11,7 @@ use std::process::Abort;
 /// The edit mode, what is typed before the key, and whether the key is executed as one of its own.
 type Row = (EditMode, &'static str, bool);
 
-const IN_EMACS: &[Row] = &[
+const ROWS: &[Row] = &[
     (Emacs, "b", true),
     (Emacs, "b⌥3", true),
     (Emacs, "b⌥5", true),
@@ -20,9 +20,6 @@ const IN_EMACS: &[Row] = &[
     (Emacs, "b⌃X", false),
     (Emacs, "b⌃]", false),
     (Emacs, "b⌃⌥]", false),
-];
-
-const IN_VI: &[Row] = &[
     (Vi, "ab", true),
     (Vi, "ab\u{1b}", true),
     (Vi, "ab\u{1b}R", true),
@@ -37,9 +34,6 @@ const IN_VI: &[Row] = &[
     (Vi, "ab\u{1b}>", false),
     (Vi, "ab\u{1b}2d3", false),
     (Vi, "ab\u{1b}c12345", false),
-];
-
-const OF_MORE_KEYS: &[Row] = &[
     (Vi, "ab\u{1b}f", false),
     (Vi, "ab\u{1b}T", false),
     (Vi, "ab\u{1b}r", false),
@@ -85,24 +79,9 @@ fn end_as_they_must(rt: &impl Abort, alloc: Global, (style, before, alone): Row)
     }
 }
 
-/// The keys after what is typed before them in each of these rows.
-fn end_in_each(rt: &impl Abort, alloc: Global, rows: &[Row]) {
-    for row in rows {
-        end_as_they_must(rt, alloc, *row);
+#[test]
+fn behind_other_keys(rt: HostRuntime) {
+    for row in ROWS {
+        end_as_they_must(&rt, rt.alloc(), *row);
     }
-}
-
-#[test]
-fn behind_keys_of_emacs(rt: HostRuntime) {
-    end_in_each(&rt, rt.alloc(), IN_EMACS);
-}
-
-#[test]
-fn behind_keys_of_vi(rt: HostRuntime) {
-    end_in_each(&rt, rt.alloc(), IN_VI);
-}
-
-#[test]
-fn behind_more_keys_of_vi(rt: HostRuntime) {
-    end_in_each(&rt, rt.alloc(), OF_MORE_KEYS);
 }

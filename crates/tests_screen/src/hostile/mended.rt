@@ -1,5 +1,5 @@
-//! Each call of those who are asked fails once, and each run answers the error of the one that failed. Once nothing fails,
-//! what is left is drawn as an editor that is made of it draws it.
+//! Each call of those who are asked fails once, and each run answers the error of the one that failed. Once nothing
+//! fails, what is left is drawn as an editor that is made of it draws it.
 
 use super::bench::{self, Desk, Item, PLAIN, Seen, To, VI, bind_all, ended, items, look, shelf};
 use crate::holds;
@@ -203,17 +203,13 @@ const BEHIND_X: &[KeyEvent] = &[
     KeyEvent(K::Char('a'), M::NONE),
 ];
 
-/// Binds the handlers of the sequence and of each key.
-fn bind_handlers(alloc: Global, take: Take<'_>, bindings: &mut Bindings) -> Result<()> {
+/// Binds the handlers of the sequence and of each key, and makes a reader of what is typed.
+fn prepared(alloc: Global, take: Take<'_>, bindings: &mut Bindings) -> Result<Typist> {
     let (call, fault) = take.failing(OF_SEQUENCE);
     let sequence = To::Asks(true, call, fault);
     let (call, fault) = take.failing(OF_EACH_KEY);
     let each_key = To::Asks(false, call, fault);
-    bind_all(alloc, bindings, &[(BEHIND_X, sequence), (&[], each_key)])
-}
-
-/// A reader of what is typed.
-fn reader(alloc: Global, take: Take<'_>) -> Result<Typist> {
+    bind_all(alloc, bindings, &[(BEHIND_X, sequence), (&[], each_key)])?;
     let mut typist = Typist::new(alloc);
     for item in items(alloc, take.scene.typed)?.as_slice() {
         if let Item::Key(key) = item {
@@ -224,63 +220,47 @@ fn reader(alloc: Global, take: Take<'_>) -> Result<Typist> {
     Ok(typist)
 }
 
-/// What is to be looked at after a run: all that the scene has, with how the run ended; or whether the line is mended. Or
-/// the run ended as it was not to end.
-enum Then {
-    IsLeft(&'static str),
-    IsMended,
-    IsWrong,
-}
-
-/// What is to be looked at after this outcome, which is that of a fault where one who is asked failed.
-fn judged(alloc: Global, take: Take<'_>, outcome: &Result<()>) -> Result<Then> {
-    Ok(match (take.ending, outcome) {
-        (Ending::Fails, _) if take.failing(take.party).1.is_answer(alloc, outcome)? =>
-            Then::IsMended,
-        (Ending::Fails, _) => Then::IsWrong,
-        (Ending::WellOrByMemory, Err(ReadlineError::Memory)) => Then::IsMended,
-        _ => Then::IsLeft(ended(outcome)),
-    })
-}
-
-/// Runs on what is typed.
-fn runs(alloc: Global, take: Take<'_>, state: &mut Editor<'_, '_>) -> Result<Then> {
-    let mut typist = reader(alloc, take)?;
-    let mut bindings = Bindings::new(alloc);
-    let then = match bind_handlers(alloc, take, &mut bindings) {
-        Ok(()) => runs_by(alloc, take, state, &bindings, &mut typist),
-        Err(error) => Err(error),
-    };
-    then
-}
-
-/// Runs by these bindings on what a reader has.
-fn runs_by(
-    alloc: Global,
-    take: Take<'_>,
-    state: &mut Editor<'_, '_>,
-    bindings: &Bindings,
-    typist: &mut Typist,
-) -> Result<Then> {
-    let config = Config::builder(GraphemeClusterMode::Unicode)
-        .edit_mode(take.scene.desk.style)
-        .build();
-    let mut input = InputState::new(&config, bindings);
-    let mut kills = KillRing::new(alloc, 60);
-    let outcome = run(state, &mut input, typist, &mut kills, &config);
-    judged(alloc, take, &outcome)
-}
-
-/// Whether the run ended as it is to end: by the fault of the one that failed, or as it does where nothing fails, and
-/// left what the scene has.
+/// Whether a run on what is typed ended as it is to end: by the fault of the one that failed, after which the line is
+/// mended, or as it does where nothing fails, and left what the scene has.
 fn is_right(alloc: Global, take: Take<'_>, mut state: Editor<'_, '_>) -> Result<bool> {
-    let is_right = match runs(alloc, take, &mut state) {
-        Ok(Then::IsLeft(end)) => Ok(is_left(take.scene, &state, end)),
-        Ok(Then::IsMended) => is_mended(alloc, take.scene, &mut state),
-        Ok(Then::IsWrong) => Ok(false),
+    let mut bindings = Bindings::new(alloc);
+    let is_right = match prepared(alloc, take, &mut bindings) {
+        Ok(mut typist) => {
+            let config = Config::builder(GraphemeClusterMode::Unicode)
+                .edit_mode(take.scene.desk.style)
+                .build();
+            let mut input = InputState::new(&config, &bindings);
+            let mut kills = KillRing::new(alloc, 60);
+            let outcome = run(&mut state, &mut input, &mut typist, &mut kills, &config);
+            judged(alloc, take, &mut state, &outcome)
+        }
         Err(error) => Err(error),
     };
     is_right
+}
+
+/// The same of a run with this outcome.
+fn judged(
+    alloc: Global,
+    take: Take<'_>,
+    state: &mut Editor<'_, '_>,
+    outcome: &Result<()>,
+) -> Result<bool> {
+    let is_cut = match (take.ending, outcome) {
+        (Ending::Fails, _) => {
+            if !take.failing(take.party).1.is_answer(alloc, outcome)? {
+                return Ok(false);
+            }
+            true
+        }
+        (Ending::WellOrByMemory, Err(ReadlineError::Memory)) => true,
+        _ => false,
+    };
+    if is_cut {
+        is_mended(alloc, take.scene, state)
+    } else {
+        Ok(is_left(take.scene, state, ended(outcome)))
+    }
 }
 
 /// Whether a run that ended so left what the scene has.
@@ -290,9 +270,10 @@ fn is_left(scene: &Scene, state: &Editor<'_, '_>, end: &str) -> bool {
         pos,
         place,
         layout,
+        screen,
     } = look(state);
     let at = (layout.cursor.row, layout.cursor.col);
-    let is_drawn = (at, state.out().redraws()) == (scene.at, scene.redraws);
+    let is_drawn = (at, screen.redraws()) == (scene.at, scene.redraws);
     let line = line.split_at_checked(pos);
     let is_line = line.is_some() && line == scene.left.split_once('|');
     is_drawn && is_line && (place, end) == (scene.place, scene.end)
@@ -305,7 +286,8 @@ fn is_mended(alloc: Global, scene: &Scene, state: &mut Editor<'_, '_>) -> Result
         line,
         pos,
         place,
-        ..
+        layout: _,
+        screen: _,
     } = look(state);
     let history = state.history();
     if place > scene.desk.entries.len() || place > history.len() || !line.is_char_boundary(pos) {
@@ -323,34 +305,26 @@ fn is_mended(alloc: Global, scene: &Scene, state: &mut Editor<'_, '_>) -> Result
     is_mended
 }
 
-/// Whether an editor that has drawn nothing draws what another one shows.
+/// Whether an editor that has drawn nothing draws what another one shows, on its screen too.
 fn draws_alike(mut anew: Editor<'_, '_>, state: &Editor<'_, '_>) -> Result<bool> {
     anew.refresh_line()?;
-    Ok(shows_alike(&anew, state))
+    let is_hinted = (anew.has_hint(), anew.hint_text()) == (state.has_hint(), state.hint_text());
+    Ok(is_hinted && are_alike(look(&anew), look(state)))
 }
 
-/// Whether two editors that have drawn their lines show the same, on their screens too.
-fn shows_alike(one: &Editor<'_, '_>, other: &Editor<'_, '_>) -> bool {
-    let is_hinted = (one.has_hint(), one.hint_text()) == (other.has_hint(), other.hint_text());
-    is_hinted && is_alike(look(one), look(other)) && is_drawn_alike(one.out(), other.out())
-}
-
-/// Whether two editors have the same line, place and layout.
-fn is_alike(one: Seen<'_>, other: Seen<'_>) -> bool {
+/// Whether two editors have the same line, place and layout, and their screens show the same, and were handed the same
+/// last.
+fn are_alike(one: Seen<'_, Recorder>, other: Seen<'_, Recorder>) -> bool {
     let (kept, second) = (one.layout, other.layout);
     let is_placed = (kept.prompt_size, kept.cursor, kept.end)
         == (second.prompt_size, second.cursor, second.end);
     let is_told = (kept.has_info, kept.default_prompt) == (second.has_info, second.default_prompt)
         && kept.grapheme_cluster_mode == second.grapheme_cluster_mode;
     let is_line = (one.line, one.pos, one.place) == (other.line, other.pos, other.place);
-    is_placed && is_told && is_line
-}
-
-/// Whether two screens show the same, and were handed the same last.
-fn is_drawn_alike(one: &Recorder, other: &Recorder) -> bool {
-    let handed = handed_last(one.log());
-    let is_handed = handed.is_some() && handed == handed_last(other.log());
-    is_handed && one.shows() == other.shows()
+    let handed = handed_last(one.screen.log());
+    let is_handed = handed.is_some() && handed == handed_last(other.screen.log());
+    let is_shown = is_handed && one.screen.shows() == other.screen.shows();
+    is_placed && is_told && is_line && is_shown
 }
 
 /// What a screen was handed last, before and after the old layout. A line of its log can miss its end, where memory ran
@@ -391,36 +365,25 @@ fn fails_each(rt: &impl Abort, alloc: Global, scene: &Scene) {
     }
 }
 
-/// Nothing fails in a scene: it ends well, and where an allocation is refused, by `Memory` alone.
-fn fails_none(rt: &impl Abort, alloc: Global, scene: &Scene) {
-    let take = Take {
-        scene,
-        party: OF_SCREEN,
-        call: 0,
-        ending: Ending::WellOrByMemory,
-    };
-    let outcome = plays(alloc, take);
-    let is_so = matches!(&outcome, Ok(true) | Err(ReadlineError::Memory));
-    holds(rt, is_so, scene.typed, 0);
-}
-
-/// Plays each scene, where one of those who are asked fails or none does.
-fn play_each(rt: &impl Abort, alloc: Global, fails: bool) {
+#[test]
+fn after_each_fault(rt: HostRuntime) {
     for scene in SCENES {
-        if fails {
-            fails_each(rt, alloc, scene);
-        } else {
-            fails_none(rt, alloc, scene);
-        }
+        fails_each(&rt, rt.alloc(), scene);
     }
 }
 
-#[test]
-fn after_each_fault(rt: HostRuntime) {
-    play_each(&rt, rt.alloc(), true);
-}
-
+/// Nothing fails in a scene: it ends well, and where an allocation is refused, by `Memory` alone.
 #[test]
 fn scenes_or_memory(rt: HostRuntime) {
-    play_each(&rt, rt.alloc(), false);
+    for scene in SCENES {
+        let take = Take {
+            scene,
+            party: OF_SCREEN,
+            call: 0,
+            ending: Ending::WellOrByMemory,
+        };
+        let outcome = plays(rt.alloc(), take);
+        let is_so = matches!(&outcome, Ok(true) | Err(ReadlineError::Memory));
+        holds(&rt, is_so, scene.typed, 0);
+    }
 }

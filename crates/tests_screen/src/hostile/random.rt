@@ -139,20 +139,6 @@ fn key(dice: &mut Dice, style: EditMode) -> KeyEvent {
     }
 }
 
-/// Up to 32 items, one in twelve a pasted text.
-fn items_of(rt: &impl Abort, alloc: Global, dice: &mut Dice, style: EditMode) -> Vec<Item> {
-    let mut items = Vec::new(alloc);
-    for _ in 0..dice.below(32).saturating_add(1) {
-        let item = if dice.below(12) == 0 {
-            Item::Paste(dice.pick(PASTED, ""))
-        } else {
-            Item::Key(key(dice, style))
-        };
-        items.push(item).expect(rt, "no fault");
-    }
-    items
-}
-
 const COLUMNS: &[Unit] = &[1, 2, 3, 4, 7, 10, 40, 80, 80, 80, 65535];
 
 const PROMPTS: &[&str] = &["> ", "> ", "", "日> ", "0123456789"];
@@ -209,43 +195,36 @@ fn laid(dice: &mut Dice, style: EditMode) -> Desk {
     }
 }
 
-/// The list of this number, read in each way: nothing is amiss, each leaves the same, and a run draws as often as
-/// turns.
+/// The list of this number, up to 32 items of which one in twelve is a pasted text, read in each way: nothing is amiss,
+/// each leaves the same, and a run draws as often as turns.
 fn plays(rt: &impl Abort, alloc: Global, style: EditMode, seed: usize) {
     let mut dice = Dice {
         last: seed,
         digits: 0,
     };
     let desk = laid(&mut dice, style);
-    let items = items_of(rt, alloc, &mut dice, style);
+    let mut items = Vec::new(alloc);
+    for _ in 0..dice.below(32).saturating_add(1) {
+        let item = if dice.below(12) == 0 {
+            Item::Paste(dice.pick(PASTED, ""))
+        } else {
+            Item::Key(key(&mut dice, style))
+        };
+        items.push(item).expect(rt, "no fault");
+    }
     let others = &[Way::Run, Way::OneByOne];
     let end = agree(rt, alloc, &desk, items.as_slice(), Way::Turns, others);
     holds(rt, end.is_some(), "the list", seed);
 }
 
-/// The lists of the numbers from the first to before the last.
-fn play_all(rt: &impl Abort, alloc: Global, style: EditMode, first: usize, last: usize) {
-    for seed in first..last {
-        plays(rt, alloc, style, seed);
+#[test]
+fn keep_what_is_promised(rt: HostRuntime) {
+    for seed in 0..2000 {
+        let style = if seed < 1000 {
+            EditMode::Emacs
+        } else {
+            EditMode::Vi
+        };
+        plays(&rt, rt.alloc(), style, seed);
     }
-}
-
-#[test]
-fn keep_what_is_promised_in_emacs(rt: HostRuntime) {
-    play_all(&rt, rt.alloc(), EditMode::Emacs, 0, 500);
-}
-
-#[test]
-fn keep_more_in_emacs(rt: HostRuntime) {
-    play_all(&rt, rt.alloc(), EditMode::Emacs, 500, 1000);
-}
-
-#[test]
-fn keep_what_is_promised_in_vi(rt: HostRuntime) {
-    play_all(&rt, rt.alloc(), EditMode::Vi, 1000, 1500);
-}
-
-#[test]
-fn keep_more_in_vi(rt: HostRuntime) {
-    play_all(&rt, rt.alloc(), EditMode::Vi, 1500, 2000);
 }

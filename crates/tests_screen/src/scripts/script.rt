@@ -44,16 +44,6 @@ fn shows_item(rt: &impl Abort, out: &mut Vec<u8>, items: &mut Script) {
     written.expect(rt, "no fault");
 }
 
-/// Whether one of the lines of a text is this one.
-fn has_line(text: &str, wanted: &str) -> bool {
-    for line in text.split('\n') {
-        if line == wanted {
-            return true;
-        }
-    }
-    false
-}
-
 /// One of the lines that are written down of a script is this one, or the script is refused by the number of a line.
 fn gives(rt: &impl Abort, alloc: Global, script: &[u8], wanted: &str) {
     let mut out = Vec::new(alloc);
@@ -65,11 +55,18 @@ fn gives(rt: &impl Abort, alloc: Global, script: &[u8], wanted: &str) {
         Err(ScriptError::Fault(_)) => {}
     }
     let text = str::from_utf8(&out).unwrap_or("no text");
-    holds(rt, has_line(text, wanted), text, script.len());
+    let is_line = match text.split_once(wanted) {
+        Some((before, behind)) => {
+            let begins = before.is_empty() || before.ends_with('\n');
+            begins && (behind.is_empty() || behind.starts_with('\n'))
+        }
+        None => false,
+    };
+    holds(rt, is_line, text, script.len());
 }
 
-/// A script, and one of the lines that say what it gives.
-const GOOD: &[(&str, &str)] = &[
+/// A script, and one of the lines that say what it gives, or its first bad line.
+const CASES: &[(&str, &str)] = &[
     ("", "items"),
     ("\n\n", "items"),
     ("type ", "items"),
@@ -167,10 +164,6 @@ const GOOD: &[(&str, &str)] = &[
     ("paste  é\n", "items pasted \" é\""),
     ("paste a\r\n", "items pasted \"a\\r\""),
     (r"paste a\\nb", "items pasted \"a\\\\nb\""),
-];
-
-/// A script, and its first bad line.
-const BAD: &[(&str, &str)] = &[
     ("key Foo", "bad line 1"),
     ("type a\nkey Left\nkey Foo\ntype b\n", "bad line 3"),
     ("\n\nkey\n", "bad line 3"),
@@ -292,42 +285,11 @@ const BYTES: &[(&[u8], &str)] = &[
 ];
 
 #[test]
-fn gives_what_good_lines_say(rt: HostRuntime) {
-    for (script, wanted) in GOOD {
-        gives(&rt, rt.alloc(), script.as_bytes(), wanted);
-    }
-}
-
-#[test]
-fn names_the_first_bad_line(rt: HostRuntime) {
-    for (script, wanted) in BAD {
+fn gives_what_its_lines_say(rt: HostRuntime) {
+    for (script, wanted) in CASES {
         gives(&rt, rt.alloc(), script.as_bytes(), wanted);
     }
     for (script, wanted) in BYTES {
         gives(&rt, rt.alloc(), script, wanted);
-    }
-}
-
-/// So many lines, the numbers from 1 on, and how many of them are kept and the oldest: the history keeps 100.
-const LIMITED: &[(usize, usize, &str)] = &[(100, 100, "1"), (101, 100, "2"), (250, 100, "151")];
-
-/// Lines of a history, by their numbers.
-fn numbered(rt: &impl Abort, alloc: Global, lines: usize) -> Vec<u8> {
-    let mut script = Vec::new(alloc);
-    for index in 0..lines {
-        let number = index + 1;
-        writeln!(script, "history {number}").expect(rt, "no fault");
-    }
-    script
-}
-
-#[test]
-fn keeps_a_hundred_lines(rt: HostRuntime) {
-    for (lines, kept, oldest) in LIMITED {
-        let script = numbered(&rt, rt.alloc(), *lines);
-        let parsed = read_script(rt.alloc(), script.as_slice()).expect(&rt, "a good script");
-        let first = parsed.history.iter().next().expect(&rt, "a line");
-        let is_so = parsed.history.len() == *kept && first.as_str() == *oldest;
-        holds(&rt, is_so, oldest, *lines);
     }
 }
