@@ -36,22 +36,11 @@ fn answer_to_file<R: Files + AllocGlobal>(
     answers: &mut String,
 ) -> Result<()> {
     let path = unescape(rt.alloc(), name, Some('\\'))?;
-    match fs::read_to_string(rt, &*path) {
-        Ok(text) => answer_to_lines(rt.alloc(), text.as_str(), names, vi, answers),
-        Err(_) => add(answers, &[":load ", name, ": cannot be read"]),
-    }
-}
-
-/// Adds what is answered to the lines of a text.
-fn answer_to_lines(
-    alloc: Global,
-    text: &str,
-    names: &mut Names,
-    vi: bool,
-    answers: &mut String,
-) -> Result<()> {
+    let Ok(text) = fs::read_to_string(rt, &*path) else {
+        return add(answers, &[":load ", name, ": cannot be read"]);
+    };
     for line in text.lines() {
-        answer_to_line(alloc, line, names, vi, answers)?;
+        answer_to_line(rt.alloc(), line, names, vi, answers)?;
     }
     Ok(())
 }

@@ -57,8 +57,8 @@ fn assigned_name<'a>(tokens: &[Placed<'a>]) -> Option<&'a str>
         (λ name. IsAt tokens.now 0 (word name.now) × IsAt tokens.now 1 equals) }
     ensures none { IfNone result (AssignsNoName tokens.now) }
 {
-    match (token_at(tokens, 0), token_at(tokens, 1)) {
-        (Some(Token::Name(name)), Some(Token::Equals)) => Some(name),
+    match token_at(tokens, 0) {
+        Some(Token::Name(name)) if matches!(token_at(tokens, 1), Some(Token::Equals)) => Some(name),
         _ => None,
     }
 }

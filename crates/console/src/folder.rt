@@ -32,7 +32,7 @@ impl Folder {
             };
             entries.push(Entry {
                 name: String::from_str(rt.alloc(), entry.file_name())?,
-                folder: entry.file_type().is_ok_and(|kind| kind.is_dir()),
+                folder: matches!(entry.file_type(), Ok(kind) if kind.is_dir()),
             })?;
         }
         Ok(Folder { entries })

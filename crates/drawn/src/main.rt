@@ -11,5 +11,8 @@ use std::process::ExitCode;
 use turns::play;
 
 fn main(rt: HostRuntime) -> ExitCode {
-    ExitCode::from(play(rt.alloc(), rt.reader(), &mut io::writer(&rt)))
+    match play(rt.alloc(), rt.reader(), &mut io::writer(&rt)) {
+        Ok(()) => ExitCode::SUCCESS,
+        Err(_) => ExitCode::from(3),
+    }
 }

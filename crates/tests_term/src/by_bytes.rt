@@ -10,8 +10,6 @@ use line_term::Decoder;
 use line_term::decoder::LONGEST_SILENCE;
 use std::alloc::Global;
 
-const PAUSE: char = '…';
-
 const SHORT_PAUSE: char = '⋯';
 
 const SILENCE: char = '‖';
@@ -30,14 +28,19 @@ const PASTE_START: KeyEvent = KeyEvent(KeyCode::BracketedPasteStart, Modifiers::
 /// its names have besides.
 pub type Way = (usize, &'static str, Modifiers);
 
-/// Lets so many pauses go by. Returns whether none fails, and something is left waiting behind them, or nothing.
-fn pauses(decoder: &mut Decoder, keys: &mut KeyQueue, count: u32, is_left: bool) -> bool {
-    for _ in 0..count {
+/// Does what a mark between bytes says. Returns whether no call fails, and something is left waiting behind a short pause, and nothing
+/// behind another one.
+fn settles(decoder: &mut Decoder, keys: &mut KeyQueue, mark: char) -> bool {
+    if mark == END {
+        return decoder.finish(keys).is_ok();
+    }
+    let pauses = if mark == SILENCE { LONGEST_SILENCE } else { 1 };
+    for _ in 0..pauses {
         if decoder.flush(keys).is_err() {
             return false;
         }
     }
-    decoder.is_waiting() == is_left
+    decoder.is_waiting() == (mark == SHORT_PAUSE)
 }
 
 /// Feeds bytes, cut at a place. Returns whether no call fails, and no pause leaves more or less waiting than it says.
@@ -51,17 +54,15 @@ pub fn feeds(
     let mut piece = Vec::new(alloc);
     let mut is_well = true;
     for (place, c) in bytes.chars().enumerate() {
-        if place == cut || cut == EACH || matches!(c, PAUSE | SHORT_PAUSE | SILENCE | END) {
+        let byte = u8::try_from(u32::from(c));
+        if place == cut || cut == EACH || byte.is_err() {
             is_well = is_well && decoder.feed(&piece, keys).is_ok();
             piece.clear();
         }
         is_well = is_well
-            && match c {
-                PAUSE => pauses(decoder, keys, 1, false),
-                SHORT_PAUSE => pauses(decoder, keys, 1, true),
-                SILENCE => pauses(decoder, keys, LONGEST_SILENCE, false),
-                END => decoder.finish(keys).is_ok(),
-                c => piece.push(u8::try_from(u32::from(c)).unwrap_or(0)).is_ok(),
+            && match byte {
+                Ok(byte) => piece.push(byte).is_ok(),
+                Err(_) => settles(decoder, keys, c),
             };
     }
     is_well && decoder.feed(&piece, keys).is_ok()
@@ -72,14 +73,18 @@ pub fn feeds(
 /// not typed. Bytes that go on behind a pause end with it, and no other follows them.
 pub fn first_wrong(alloc: Global, way: Way, bytes: &str, names: &str) -> Option<usize> {
     let (bound, front, modifiers) = way;
+    let pause = if bytes.ends_with(SHORT_PAUSE) {
+        ""
+    } else {
+        "…"
+    };
     for cut in 0..=bytes.len() {
         let mut decoder = Decoder::new(alloc);
         let mut keys = KeyQueue::new(alloc);
         decoder.set_paste_bound(bound);
-        let is_fed = feeds(alloc, &mut decoder, &mut keys, front, 0)
+        let is_so = feeds(alloc, &mut decoder, &mut keys, front, 0)
             && feeds(alloc, &mut decoder, &mut keys, bytes, cut)
-            && (bytes.ends_with(SHORT_PAUSE) || pauses(&mut decoder, &mut keys, 1, false));
-        let is_so = is_fed
+            && feeds(alloc, &mut decoder, &mut keys, pause, 0)
             && are(&mut keys, names, modifiers)
             && feeds(alloc, &mut decoder, &mut keys, "‖x", 0)
             && are(&mut keys, "x", Modifiers::NONE);

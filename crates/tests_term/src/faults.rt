@@ -3,8 +3,8 @@
 use crate::holds;
 use crate::parties::{Failing, NOBODY};
 use crate::sessions::{
-    ASK, ASK_AT_ONCE, CURSOR, LINES, LIST, LIST_AT_ONCE, MANY, ROUND, ROUND_VI, SEARCH, SEARCH_VI,
-    Session, bindings, marked, new_session,
+    ASK, ASK_AT_ONCE, CURSOR, LINES, LIST, LIST_AT_ONCE, MANY, PAUSE, ROUND, ROUND_VI, SEARCH,
+    SEARCH_VI, Session, bindings, done, marked, new_session,
 };
 use line_config::{ReadlineError, Result};
 use line_editor::Bindings;
@@ -14,6 +14,7 @@ use line_session::editor::Fed;
 use std::alloc::Global;
 use std::process::Abort;
 use tests_parties::fault::GONE;
+use tests_parties::shelf::Shelf;
 
 /// Who fails in turn, what is tried, the words or the lines of the history, what is typed, the line from before a completion or a
 /// search, and after which text of a list the line is drawn on a new row.
@@ -37,6 +38,9 @@ const CHECKED: &str = "output hinter highlighter completer validator";
 
 /// Who is asked in a search.
 const LED: &str = "output hinter highlighter history";
+
+/// Stands among keys where the screen gets ten columns.
+const RESIZED: &str = "\0";
 
 const CASES: &[Case] = &[
     // candidates are gone through
@@ -77,6 +81,9 @@ const CASES: &[Case] = &[
     (DRAWN, ROUND, "ab", "ab\x1acd", "ab", ""),
     // the input ends
     (DRAWN, ROUND, "ab", "\x04", "", ""),
+    // the size changes, in an empty line and in a list
+    (DRAWN, ROUND, "ab", RESIZED, "", ""),
+    (HELPED, LIST, MANY, "a\t\t\0", "a", ""),
 ];
 
 /// Types a character into a session. Returns whether it comes in at the cursor, as where commands are read.
@@ -86,12 +93,12 @@ fn types_on(alloc: Global, session: &mut Session, bindings: &Bindings) -> Result
         return Ok(false);
     };
     let wanted = format!(in alloc; "{before}z{CURSOR}{behind}")?;
-    session.feed(b"z", bindings)?;
+    done(session, "z", 1, bindings)?;
     Ok(marked(alloc, session)? == wanted)
 }
 
 /// Whether a history has the lines of another.
-fn has_lines<S: History>(one: &S, other: &S) -> Result<bool> {
+fn has_lines(one: &Shelf, other: &Shelf) -> Result<bool> {
     let mut has = one.len() == other.len();
     for index in 0..one.len() {
         let line = one.get(index, SearchDirection::Forward)?;
@@ -127,7 +134,7 @@ fn wrong(
         if line.is_none() || !is_one {
             return Ok("another line, or none");
         }
-        session.flush(bindings)?;
+        done(session, PAUSE, 1, bindings)?;
     }
     if !has_lines(session.history(), twin.history())? {
         return Ok("another history");
@@ -141,22 +148,7 @@ fn wrong(
     })
 }
 
-/// A session in which one of those who are asked fails, and its twin, in which nothing fails.
-struct Twins {
-    session: Session,
-    twin: Session,
-}
-
-impl Drop for Twins {
-    fn drop(self) {
-        let Twins {
-            session: _,
-            twin: _,
-        } = self;
-    }
-}
-
-/// Types what a case says into two sessions, key by key. Returns None where nothing failed, and else what is wrong then.
+/// Does what a case says in two sessions, key by key. Returns None where nothing failed, and else what is wrong then.
 fn typed(
     alloc: Global,
     case: &Case,
@@ -166,15 +158,17 @@ fn typed(
     bindings: &Bindings,
 ) -> Result<Option<&'static str>> {
     let mut before = String::new(alloc);
-    let mut outcome = session.begin(&"> ", bindings);
-    twin.begin(&"> ", bindings)?;
-    for key in case.3.as_bytes() {
+    let mut outcome = done(session, "»", 1, bindings);
+    done(twin, "»", 1, bindings)?;
+    for at in 0..case.3.len() {
         if outcome.is_err() {
             break;
         }
+        let key = case.3.get(at..at.saturating_add(1)).unwrap_or("");
+        let step = if key == RESIZED { "↔10" } else { key };
         before = String::from_str(alloc, twin.line().unwrap_or(""))?;
-        outcome = session.feed(&[*key], bindings);
-        twin.feed(&[*key], bindings)?;
+        outcome = done(session, step, 1, bindings);
+        done(twin, step, 1, bindings)?;
     }
     if outcome.is_ok() {
         let (name, call) = failing;
@@ -189,37 +183,31 @@ fn typed(
 
 /// Does what a case says with one that fails. Returns None where nothing failed, and else what is wrong then.
 fn failed(alloc: Global, case: &Case, failing: Failing) -> Result<Option<&'static str>> {
-    let session = new_session(alloc, case.1, case.2, failing)?;
-    let twin = new_session(alloc, case.1, case.2, NOBODY)?;
-    let mut twins = Twins { session, twin };
     let bindings = bindings(alloc)?;
-    let Twins { session, twin } = &mut twins;
-    typed(alloc, case, failing, session, twin, &bindings)
+    let mut session = new_session(alloc, case.1, case.2, failing)?;
+    let mut twin = new_session(alloc, case.1, case.2, NOBODY)?;
+    typed(alloc, case, failing, &mut session, &mut twin, &bindings)
 }
 
 /// How many calls past the last one are tried.
 const PAST: usize = 10;
 
-/// Fails each call of those who are asked in a case; the first of each is made. What is left is right; and each failure is
-/// reported, so after a call that is not made none is.
-fn each_fails(rt: &impl Abort, alloc: Global, case: &Case) {
-    for name in case.0.split(' ') {
-        let mut past: usize = 0;
-        for call in 1..200 {
-            let failed = failed(alloc, case, (name, call)).expect(rt, "no other fault");
-            holds(rt, failed.is_some() || call > 1, name, call);
-            let Some(wrong) = failed else {
-                past = past.saturating_add(1);
-                if past == PAST {
-                    break;
-                }
-                continue;
-            };
-            assert!(rt;
-                wrong == "" && past == 0,
-                "{wrong}: {name} {call} of {:?}",
-                case.3
-            );
+/// Fails each call of one who is asked in a case; the first is made. What is left is right; and each failure is reported, so after a
+/// call that is not made none is.
+fn each_fails(rt: &impl Abort, alloc: Global, case: &Case, name: &'static str) {
+    let mut past: usize = 0;
+    for call in 1..200 {
+        let failed = failed(alloc, case, (name, call)).expect(rt, "no other fault");
+        let wrong = match failed {
+            Some(_) if past > 0 => "a failure behind the last one",
+            Some(wrong) => wrong,
+            None if call == 1 => "no call",
+            None => "",
+        };
+        assert!(rt; wrong == "", "{wrong}: {name} {call} of {:?}", case.3);
+        past = past.saturating_add(usize::from(failed.is_none()));
+        if past == PAST {
+            break;
         }
     }
 }
@@ -227,18 +215,21 @@ fn each_fails(rt: &impl Abort, alloc: Global, case: &Case) {
 #[test]
 fn goes_on_where_a_party_fails(rt: HostRuntime) {
     for case in CASES {
-        each_fails(&rt, rt.alloc(), case);
+        for name in case.0.split(' ') {
+            each_fails(&rt, rt.alloc(), case, name);
+        }
     }
 }
 
 /// Run with any one allocation refused, this passes: what is left is right, or the refusal came before the line began.
 #[test]
 fn goes_on_where_memory_runs_out(rt: HostRuntime) {
-    for case in CASES {
-        match failed(rt.alloc(), case, NOBODY) {
-            Ok(None) | Err(ReadlineError::Memory) => {}
-            Ok(Some(wrong)) => assert!(&rt; wrong == "", "{wrong}: {:?}", case.3),
-            Err(error) => panic!(&rt; "{error}"),
-        }
+    for (number, case) in CASES.iter().enumerate() {
+        let wrong = match failed(rt.alloc(), case, NOBODY) {
+            Ok(None) | Err(ReadlineError::Memory) => "",
+            Ok(Some(wrong)) => wrong,
+            Err(_) => "another error",
+        };
+        holds(&rt, wrong == "", wrong, number);
     }
 }

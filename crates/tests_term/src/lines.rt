@@ -1,13 +1,11 @@
 //! What comes of bytes that are typed.
 
 use crate::parties::NOBODY;
-use crate::sessions::{ADD, ADD_VI, Case, LIST, MANY, bindings, comes_true, new_session};
+use crate::sessions::{ADD, ADD_VI, COLORLESS, Case, SEARCH, bindings, comes_true, new_session};
 use crate::terminal::Counted;
 use crate::{completions, holds, searches};
-use line_buffer::GraphemeClusterMode;
-use line_config::{ColorMode, Config, ReadlineError};
-use line_parts::MemHistory;
-use line_session::editor::Editor;
+use line_config::ReadlineError;
+use tests_parties::fault::GONE;
 
 /// Asks a terminal to show what follows all at once.
 const HELD: &str = "\x1b[?2026h";
@@ -118,8 +116,6 @@ fn gives_the_line_in_whatever_pieces(rt: HostRuntime) {
     }
 }
 
-type Drawing = Editor<Counted, (), MemHistory>;
-
 /// A prompt in bold type.
 const STYLED: &str = "\x1b[1m> ";
 
@@ -132,16 +128,9 @@ const LINES: &[&str] = &["!", "abc", "de", "hij", ""];
 #[test]
 fn reads_lines_of_an_input(rt: HostRuntime) {
     let bindings = bindings(rt.alloc()).expect(&rt, "bindings");
-    for (styled, colors, failing) in [
-        ("> ", ColorMode::Enabled, 0),
-        (STYLED, ColorMode::Disabled, 1),
-    ] {
-        let config = Config::builder(GraphemeClusterMode::Unicode)
-            .color_mode(colors)
-            .build();
-        let history = MemHistory::new(rt.alloc());
-        let out = Counted::failing(rt.alloc(), ("output", failing)).expect(&rt, "room");
-        let mut session: Drawing = Editor::new(rt.alloc(), config, out, 20, (), history);
+    for (how, styled, failing) in [(SEARCH, "> ", 0), (COLORLESS, STYLED, 1)] {
+        let output = ("output", failing);
+        let mut session = new_session(rt.alloc(), how, "", output).expect(&rt, "a session");
         let mut input: &[u8] = b"abc\rde\x02\rh\x1ai\x1aj\rf\x03g";
         let mut lines = usize::from(failing == 0);
         for read in session.iter(&mut input, false, &("> ", styled), &bindings) {
@@ -155,81 +144,37 @@ fn reads_lines_of_an_input(rt: HostRuntime) {
             lines = lines.saturating_add(1);
         }
         let has_ended = lines == LINES.len() && session.line().is_none();
-        holds(&rt, has_ended, "the end", failing);
         let written = session.out().written();
         let is_plain = written.contains("> ") && !written.contains(STYLED);
-        holds(&rt, is_plain, "no colors", failing);
+        holds(&rt, has_ended && is_plain, styled, lines);
     }
 }
 
 /// Prompts, plain and styled, and how the line `abc` is shown after each.
 const PROMPTS: &[(&str, &str)] = &[("> ", "> abc"), (STYLED, "\x1b[1m> \x1b[0m\x0fabc")];
 
+/// A line is drawn whole on its first output; what is typed then, on one that was emptied; and the line anew on another one, which is
+/// given back after it.
 #[test]
 fn draws_anew_on_another_output(rt: HostRuntime) {
     let bindings = bindings(rt.alloc()).expect(&rt, "bindings");
-    for (number, (prompt, line)) in PROMPTS.iter().enumerate() {
-        let config = Config::new(GraphemeClusterMode::Unicode);
-        let history = MemHistory::new(rt.alloc());
-        let out = Counted::failing(rt.alloc(), NOBODY).expect(&rt, "room");
-        let mut session: Drawing = Editor::new(rt.alloc(), config, out, 20, (), history);
-        let has_begun = if *prompt == STYLED {
-            session.begin(&("> ", STYLED), &bindings).is_ok()
-        } else {
-            session.begin(&"> ", &bindings).is_ok()
-        };
-        let is_fed = has_begun && session.feed(b"ab", &bindings).is_ok();
-        let is_whole = is_fed && session.out().written().contains(*prompt);
-        holds(&rt, is_whole, "the first output", number);
-        let emptied = Counted::failing(rt.alloc(), NOBODY).expect(&rt, "room");
-        let before = session.exchange_out(emptied);
-        let is_fed = session.feed(b"c", &bindings).is_ok() && before.written().contains(*prompt);
-        let written = session.out().written();
-        let is_part = is_fed && written.contains("c") && !written.contains(*prompt);
-        holds(&rt, is_part, "an output that was emptied", number);
-        let other = Counted::failing(rt.alloc(), NOBODY).expect(&rt, "room");
-        let before = session.replace_out(other);
-        let is_fed = session.feed(b"", &bindings).is_ok() && before.written().contains("c");
-        let is_anew = is_fed && session.out().written().contains(*line);
-        holds(&rt, is_anew, "another output", number);
-        let last = Counted::failing(rt.alloc(), NOBODY).expect(&rt, "room");
-        let has_left = session.abandon().is_ok();
-        let is_left = has_left && session.replace_out(last).written().contains(*line);
-        holds(&rt, is_left, "another output between two lines", number);
-    }
-}
-
-/// A line is begun and resized, empty and in a list, where the write of each number fails, and none
-/// at first. How many there are is seen then.
-#[test]
-fn hands_on_the_failures_of_a_resize(rt: HostRuntime) {
-    let bindings = bindings(rt.alloc()).expect(&rt, "bindings");
-    for lists in [false, true] {
-        let name = if lists { "in a list" } else { "an empty line" };
-        let mut writes = 0;
-        for failing in 0..100 {
-            let write = ("output", failing);
-            let (is_well, made) = if lists {
-                let mut session = new_session(rt.alloc(), LIST, MANY, write).expect(&rt, "room");
-                let has_begun = session.begin(&"> ", &bindings).is_ok();
-                let is_fed = session.feed(b"a\t\t", &bindings).is_ok();
-                let is_resized = session.resize(10, 5).is_ok();
-                (has_begun && is_fed && is_resized, session.out().writes)
+    for (prompt, line) in PROMPTS {
+        let mut session = new_session(rt.alloc(), SEARCH, "", NOBODY).expect(&rt, "a session");
+        let has_begun = session.begin(&("> ", *prompt), &bindings).is_ok();
+        for (keys, shown) in [("ab", *prompt), ("c", "c"), ("", *line)] {
+            let is_fed = has_begun && session.feed(keys.as_bytes(), &bindings).is_ok();
+            let written = session.out().written();
+            let has_prompt = written.contains(*prompt);
+            let is_drawn = is_fed && written.contains(shown) && has_prompt == (keys != "c");
+            let other = Counted::new(rt.alloc(), usize::MAX, 0, GONE).expect(&rt, "room");
+            let before = if keys == "ab" {
+                session.exchange_out(other)
             } else {
-                let config = Config::new(GraphemeClusterMode::Unicode);
-                let history = MemHistory::new(rt.alloc());
-                let out = Counted::failing(rt.alloc(), write).expect(&rt, "room");
-                let mut session: Drawing = Editor::new(rt.alloc(), config, out, 20, (), history);
-                let has_begun = session.begin(&"> ", &bindings).is_ok();
-                let is_resized = session.resize(10, 5).is_ok();
-                (has_begun && is_resized, session.out().writes)
+                let has_left = keys == "c" || session.abandon().is_ok();
+                holds(&rt, has_left, "the line is dropped", 0);
+                session.replace_out(other)
             };
-            if failing == 0 {
-                writes = made;
-            }
-            let fails = 0 < failing && failing <= writes;
-            holds(&rt, is_well != fails, name, failing);
+            holds(&rt, is_drawn && before.written().contains(shown), shown, 0);
         }
-        holds(&rt, writes > 0, name, writes);
     }
 }

@@ -1,29 +1,29 @@
 //! Those whom a session asks, of whose calls one can fail.
-ghost use Rattle.std.specs.Prelude.{◌≡◌, None, Some, false, map, string_bytes};
-ghost use Rattle.line_parts.specs.Verdict.{valid};
+ghost use Rattle.std.specs.Prelude.{Some, false, map, string_bytes};
 
 use line_buffer::{Changeset, LineBuffer};
 use line_config::Result;
-use line_parts::{
-    CmdKind, Completer, Context, Highlighter, Hinter, History, SteadyHighlighter,
-    ValidationContext, ValidationResult, Validator, Words,
-};
+use line_parts::{CmdKind, Completer, Context, Highlighter, History, SteadyHighlighter, Words};
 use std::alloc::Global;
 use std::borrow::CowStr;
 use tests_parties::countdown::Countdown;
 use tests_parties::fault::GONE;
 
 /// Who fails, and at which of its calls, from 1 on; at none where that is 0.
-pub(crate) type Failing = (&'static str, usize);
+pub(crate) type Failing = (&'static str, u64);
 
 /// Nobody fails.
 pub(crate) const NOBODY: Failing = ("", 0);
 
-/// A part of a helper: a completer of words, a hinter that knows nothing, a highlighter without colors, or a validator that takes
-/// each line. One of its calls can fail.
+/// Which of its calls fails of the one of this name, from 1 on; none where that is 0.
+pub(crate) fn failing_call((name, call): Failing, of: &str) -> u64 {
+    if name == of { call } else { 0 }
+}
+
+/// A part of a helper: a completer of words, or a highlighter without colors. One of its calls can fail.
 pub(crate) struct Party {
     pub(crate) words: Words,
-    pub(crate) calls: Countdown,
+    calls: Countdown,
 }
 
 impl Drop for Party {
@@ -33,14 +33,13 @@ impl Drop for Party {
 }
 
 impl Party {
-    /// A part of this name without words, one of whose calls fails if it is the one that does.
-    pub(crate) fn new(alloc: Global, name: &str, failing: Failing) -> Party {
-        let (fails, call) = failing;
+    /// A part without words, whose call of this number fails; none does where that is 0.
+    pub(crate) fn new(alloc: Global, failing: u64) -> Party {
         Party {
             words: Words {
                 words: Vec::new(alloc),
             },
-            calls: Countdown::with(if fails == name { call as u64 } else { 0 }, GONE),
+            calls: Countdown::with(failing, GONE),
         }
     }
 }
@@ -78,25 +77,6 @@ impl Completer for Party {
     }
 }
 
-impl Hinter for Party {
-    type Hint = String;
-
-    ghost sure = { λ _. false };
-
-    ghost hint_at = { λ _ _. None };
-
-    fn hint<S: History>(
-        &self,
-        _alloc: Global,
-        _line: &str,
-        _pos: usize,
-        _ctx: &Context<'_, S>,
-    ) -> Result<Option<String>> {
-        self.calls.call()?;
-        Ok(None)
-    }
-}
-
 impl Highlighter for Party {
     ghost sure = { λ _. false };
 
@@ -131,15 +111,4 @@ impl SteadyHighlighter for Party {
     ghost use Rattle.std.proofs.Common.{refl};
 
     ghost lights_steady = { λ _ _ _. refl };
-}
-
-impl Validator for Party {
-    ghost sure = { λ _. false };
-
-    ghost verdict_at = { λ _ _. valid None };
-
-    fn validate(&self, _alloc: Global, _ctx: &ValidationContext<'_>) -> Result<ValidationResult> {
-        self.calls.call()?;
-        Ok(ValidationResult::Valid(None))
-    }
 }

@@ -3,26 +3,16 @@
 
 use crate::by_bytes::{EACH, feeds};
 use crate::holds;
+use line_config::Result;
 use line_keys::raw_reader::RawReader;
 use line_screen::KeyQueue;
 use line_term::Decoder;
 use std::alloc::Global;
 
-/// Numbers that look mixed, each from the one before by a linear congruence, of which the upper bits are taken.
-#[derive(Drop)]
-struct Dice {
-    last: usize,
-}
-
-impl Dice {
-    /// A number below this one.
-    fn below(&mut self, limit: usize) -> usize {
-        self.last = self
-            .last
-            .wrapping_mul(1_664_525)
-            .wrapping_add(1_013_904_223);
-        (self.last >> 24).checked_rem(limit).unwrap_or(0)
-    }
+/// A number below this one. Numbers look mixed, each made of the last one by a linear congruence, of which the upper bits are taken.
+fn below(last: &mut usize, limit: usize) -> usize {
+    *last = last.wrapping_mul(1_664_525).wrapping_add(1_013_904_223);
+    (*last >> 24).checked_rem(limit).unwrap_or(0)
 }
 
 /// What bytes are put together of.
@@ -95,31 +85,14 @@ const MADE: &[Making] = &[
 ];
 
 /// Makes bytes of parts.
-fn made(alloc: Global, dice: &mut Dice, making: &Making) -> Option<String> {
+fn made(alloc: Global, last: &mut usize, making: &Making) -> Result<String> {
     let (_, start, limit, parts, end, _) = making;
-    let mut bytes = String::from_str(alloc, start).ok()?;
-    for _ in 0..dice.below(*limit) {
-        bytes.push_str(parts.get(dice.below(parts.len()))?).ok()?;
+    let mut bytes = String::from_str(alloc, start)?;
+    for _ in 0..below(last, *limit) {
+        bytes.push_str(parts.get(below(last, parts.len())).unwrap_or(&""))?;
     }
-    bytes.push_str(end).ok()?;
-    Some(bytes)
-}
-
-/// Whether two queues have the same items left; they are read.
-fn are_same(first: &mut KeyQueue, second: &mut KeyQueue) -> bool {
-    for _ in 0..first.len() {
-        let is_same = match (first.next_key(false), second.next_key(false)) {
-            (Ok(one), Ok(other)) => one == other,
-            _ => match (first.read_pasted_text(), second.read_pasted_text()) {
-                (Ok(one), Ok(other)) => one.as_str() == other.as_str(),
-                _ => false,
-            },
-        };
-        if !is_same {
-            return false;
-        }
-    }
-    first.is_empty() && second.is_empty()
+    bytes.push_str(end)?;
+    Ok(bytes)
 }
 
 /// Whether bytes come to the same in one piece and one by one, and to nothing where they are not to stand for
@@ -127,21 +100,29 @@ fn are_same(first: &mut KeyQueue, second: &mut KeyQueue) -> bool {
 fn come_to_the_same(alloc: Global, bytes: &str, can_stand: bool) -> bool {
     let (mut whole, mut single) = (Decoder::new(alloc), Decoder::new(alloc));
     let (mut of_whole, mut of_single) = (KeyQueue::new(alloc), KeyQueue::new(alloc));
-    feeds(alloc, &mut whole, &mut of_whole, bytes, 0)
+    let mut is_same = feeds(alloc, &mut whole, &mut of_whole, bytes, 0)
         && feeds(alloc, &mut single, &mut of_single, bytes, EACH)
-        && (can_stand || of_whole.is_empty())
-        && are_same(&mut of_whole, &mut of_single)
+        && (can_stand || of_whole.is_empty());
+    for _ in 0..of_whole.len() {
+        let is_next = match (of_whole.next_key(false), of_single.next_key(false)) {
+            (Ok(one), Ok(other)) => one == other,
+            _ => match (of_whole.read_pasted_text(), of_single.read_pasted_text()) {
+                (Ok(one), Ok(other)) => one.as_str() == other.as_str(),
+                _ => false,
+            },
+        };
+        is_same = is_same && is_next;
+    }
+    is_same && of_whole.is_empty() && of_single.is_empty()
 }
 
 #[test]
 fn come_to_the_same_in_any_pieces(rt: HostRuntime) {
     for making in MADE {
-        let mut dice = Dice { last: making.0 };
+        let mut last = making.0;
         for number in 0..2000 {
-            let is_so = match made(rt.alloc(), &mut dice, making) {
-                Some(bytes) => come_to_the_same(rt.alloc(), &bytes, making.5),
-                None => false,
-            };
+            let bytes = made(rt.alloc(), &mut last, making).expect(&rt, "memory");
+            let is_so = come_to_the_same(rt.alloc(), &bytes, making.5);
             holds(&rt, is_so, making.4, number);
         }
     }

@@ -1,15 +1,13 @@
 //! The sequences that terminals send, by what they come to: those of the keys that terminfo has for each terminal, and those of other
 //! protocols; each whole, cut at each place, and the keys after an Esc. Texts, too.
 
-use crate::by_bytes::{Way, first_wrong};
+use crate::by_bytes::first_wrong;
 use crate::holds;
 use crate::texts::{BY_A_HUNDRED, BY_FOUR, BY_NONE, BY_ONE, BY_THREE, PASTED, TYPED};
 use line_keys::keys::Modifiers;
 use line_screen::KeyQueue;
 use line_term::Decoder;
 use line_term::decoder::PASTE_BOUND;
-use std::alloc::Global;
-use std::process::Abort;
 
 /// Bytes, and the names of what they come to.
 pub(crate) type Rows = &'static [(&'static str, &'static str)];
@@ -376,42 +374,33 @@ const PAUSED: Rows = &[
     ("\u{e6}\u{97}…\u{a5}x", "\u{fffd} \u{fffd} x"),
 ];
 
-/// As the bytes are, and with an Esc in front, which is Alt.
-const PLAINLY: Way = (PASTE_BOUND, "", Modifiers::NONE);
-
-const WITH_ALT: Way = (PASTE_BOUND, "\x1b", Modifiers::ALT);
-
-/// Each row comes to its names.
-fn come_to(rt: &impl Abort, alloc: Global, way: Way, rows: Rows) {
-    for (bytes, names) in rows {
-        let wrong = first_wrong(alloc, way, bytes, names);
-        holds(rt, wrong.is_none(), names, wrong.unwrap_or(0));
+/// Each row comes to its names; and the keys to those with Alt, where an Esc stands in front.
+#[test]
+fn come_to_keys_and_texts(rt: HostRuntime) {
+    for (bound, are_keys, rows) in [
+        (PASTE_BOUND, true, KEYS),
+        (PASTE_BOUND, false, CHARS),
+        (PASTE_BOUND, false, PLAIN),
+        (PASTE_BOUND, false, OTHERS),
+        (PASTE_BOUND, false, PAUSED),
+        (PASTE_BOUND, false, TYPED),
+        (PASTE_BOUND, false, PASTED),
+        (4, false, BY_FOUR),
+        (3, false, BY_THREE),
+        (100, false, BY_A_HUNDRED),
+        (0, false, BY_NONE),
+        (1, false, BY_ONE),
+    ] {
+        for (bytes, names) in rows {
+            let plainly = (bound, "", Modifiers::NONE);
+            let mut wrong = first_wrong(rt.alloc(), plainly, bytes, names);
+            if are_keys && wrong.is_none() {
+                let with_alt = (bound, "\x1b", Modifiers::ALT);
+                wrong = first_wrong(rt.alloc(), with_alt, bytes, names);
+            }
+            holds(&rt, wrong.is_none(), names, wrong.unwrap_or(0));
+        }
     }
-}
-
-#[test]
-fn are_keys(rt: HostRuntime) {
-    come_to(&rt, rt.alloc(), PLAINLY, KEYS);
-    come_to(&rt, rt.alloc(), WITH_ALT, KEYS);
-}
-
-#[test]
-fn are_keys_and_reports(rt: HostRuntime) {
-    come_to(&rt, rt.alloc(), PLAINLY, CHARS);
-    come_to(&rt, rt.alloc(), PLAINLY, PLAIN);
-    come_to(&rt, rt.alloc(), PLAINLY, OTHERS);
-    come_to(&rt, rt.alloc(), PLAINLY, PAUSED);
-}
-
-#[test]
-fn are_texts(rt: HostRuntime) {
-    come_to(&rt, rt.alloc(), PLAINLY, TYPED);
-    come_to(&rt, rt.alloc(), PLAINLY, PASTED);
-    come_to(&rt, rt.alloc(), (4, "", Modifiers::NONE), BY_FOUR);
-    come_to(&rt, rt.alloc(), (3, "", Modifiers::NONE), BY_THREE);
-    come_to(&rt, rt.alloc(), (100, "", Modifiers::NONE), BY_A_HUNDRED);
-    come_to(&rt, rt.alloc(), (0, "", Modifiers::NONE), BY_NONE);
-    come_to(&rt, rt.alloc(), (1, "", Modifiers::NONE), BY_ONE);
 }
 
 /// Bytes, and the rows and columns of the size that they report, or 0 where they report none.

@@ -1,10 +1,10 @@
 //! Sessions that are typed into, whole and in pieces, and what comes of it.
 
 use crate::holds;
-use crate::parties::{Failing, NOBODY, Party};
+use crate::parties::{Failing, NOBODY, Party, failing_call};
 use crate::terminal::Counted;
 use line_buffer::GraphemeClusterMode;
-use line_config::{CompletionType, Config, EditMode, Result};
+use line_config::{ColorMode, CompletionType, Config, EditMode, Result};
 use line_editor::{Bindings, Event, EventHandler};
 use line_keys::cmd::Cmd;
 use line_keys::keys::KeyEvent;
@@ -13,10 +13,14 @@ use line_session::editor::{Editor, Fed};
 use std::alloc::Global;
 use std::process::Abort;
 use tests_parties::fault::GONE;
+use tests_parties::guide::Guide;
 use tests_parties::shelf::Shelf;
 
+/// The helper of a session: it completes words, hints nothing, shows no colors and takes each line.
+type Helper = Parts<Party, Guide, Party, Guide>;
+
 /// A session in which those who are asked can fail.
-pub(crate) type Session = Editor<Counted, Parts<Party, Party, Party, Party>, Shelf>;
+pub(crate) type Session = Editor<Counted, Helper, Shelf>;
 
 /// What is tried, the words or the lines of the history, what is typed, what comes of it, and what is written to the terminal on the
 /// way.
@@ -45,6 +49,8 @@ pub(crate) const ASK_AT_ONCE: &str = "list, ask at once";
 pub(crate) const SEARCH: &str = "search";
 /// The same in Vi mode.
 pub(crate) const SEARCH_VI: &str = "search vi";
+/// Nothing is shown in colors.
+pub(crate) const COLORLESS: &str = "no colors";
 /// A history takes the lines that are submitted, in Emacs mode.
 pub(crate) const ADD: &str = "add";
 /// The same in Vi mode.
@@ -64,19 +70,19 @@ const BEGIN: char = '»';
 /// Gives the screen the number of columns that follows.
 const SIZE: char = '↔';
 /// The bytes pause.
-const PAUSE: &str = "…";
+pub(crate) const PAUSE: &str = "…";
 /// The bytes end.
 const END: &str = "■";
 
 // What comes of it begins so, unless the line goes on: then it is the line alone, or nothing where none goes on.
 /// The line was submitted.
-const SUBMITTED: char = '⏎';
+const SUBMITTED: &str = "⏎";
 /// The input ended.
-const ENDED: char = '■';
+const ENDED: &str = "■";
 /// The person interrupted.
-const INTERRUPTED: char = '×';
+const INTERRUPTED: &str = "×";
 /// The program is suspended.
-const SUSPENDED: char = '‖';
+const SUSPENDED: &str = "‖";
 
 /// Stands at the cursor of a line.
 pub(crate) const CURSOR: char = '|';
@@ -92,26 +98,28 @@ pub(crate) fn bindings(alloc: Global) -> Result<Bindings> {
     Ok(bindings)
 }
 
-/// A completer of the words of a text.
-fn completer(alloc: Global, text: &str, failing: Failing) -> Result<Party> {
-    let mut party = Party::new(alloc, "completer", failing);
-    for word in text.split(' ') {
-        party.words.words.push(String::from_str(alloc, word)?)?;
-    }
-    Ok(party)
-}
-
-/// A history of the lines of a text, and none where it is empty.
-fn history(alloc: Global, text: &str, failing: Failing) -> Result<Shelf> {
+/// Those who are asked: the completer has the words of a text, or the history its lines.
+fn asked(alloc: Global, completes: bool, text: &str, failing: Failing) -> Result<(Helper, Shelf)> {
+    let mut completer = Party::new(alloc, failing_call(failing, "completer"));
     let mut history = Shelf::new(alloc, 0);
-    for line in text.split('|') {
-        history.add(line)?;
+    for part in text.split(if completes { ' ' } else { '|' }) {
+        if completes {
+            completer.words.words.push(String::from_str(alloc, part)?)?;
+        } else {
+            history.add(part)?;
+        }
     }
-    let (name, call) = failing;
-    if name == "history" {
-        history.fail_by(call as u64, GONE);
-    }
-    Ok(history)
+    history.fail_by(failing_call(failing, "history"), GONE);
+    let (mut hinter, mut validator) = (Guide::new(false, false), Guide::new(false, false));
+    hinter.fail_by(failing_call(failing, "hinter"), GONE);
+    validator.fail_by(failing_call(failing, "validator"), GONE);
+    let helper = Parts {
+        completer,
+        hinter,
+        highlighter: Party::new(alloc, failing_call(failing, "highlighter")),
+        validator,
+    };
+    Ok((helper, history))
 }
 
 /// A session on a screen of 20 columns and 5 rows.
@@ -132,36 +140,37 @@ pub(crate) fn new_session(
     } else {
         CompletionType::Circular
     };
+    let color_mode = if how == COLORLESS {
+        ColorMode::Disabled
+    } else {
+        ColorMode::Enabled
+    };
     let config = Config::builder(GraphemeClusterMode::Unicode)
         .edit_mode(edit_mode)
         .completion_type(completion_type)
         .completion_prompt_limit(if how.contains("ask") { 1 } else { 100 })
         .completion_show_all_if_ambiguous(how.ends_with("at once"))
         .auto_add_history(how.starts_with("add"))
+        .color_mode(color_mode)
         .build();
     let completes = lists || how.starts_with("round");
-    let (words, lines) = if completes { (text, "") } else { ("", text) };
-    let completer = completer(alloc, words, failing)?;
-    let history = history(alloc, lines, failing)?;
-    let out = Counted::failing(alloc, failing)?;
-    let helper = Parts {
-        completer,
-        hinter: Party::new(alloc, "hinter", failing),
-        highlighter: Party::new(alloc, "highlighter", failing),
-        validator: Party::new(alloc, "validator", failing),
-    };
+    let out = Counted::new(alloc, usize::MAX, failing_call(failing, "output"), GONE)?;
+    let (helper, history) = asked(alloc, completes, text, failing)?;
     let mut session = Editor::new(alloc, config, out, 20, helper, history);
     let _ = session.resize(20, 5);
     Ok(session)
 }
 
 /// Does a step. What is fed goes in by pieces of at most this length.
-fn done(session: &mut Session, step: &str, piece: usize, bindings: &Bindings) -> Result<Fed> {
+pub(crate) fn done(
+    session: &mut Session,
+    step: &str,
+    piece: usize,
+    bindings: &Bindings,
+) -> Result<Fed> {
     if let Some(texts) = step.strip_prefix(BEGIN) {
-        return match texts.split_once(CURSOR) {
-            Some(texts) => session.begin_with(&"> ", texts, bindings),
-            None => session.begin(&"> ", bindings),
-        };
+        let texts = texts.split_once(CURSOR).unwrap_or(("", ""));
+        return session.begin_with(&"> ", texts, bindings);
     }
     if let Some(columns) = step.strip_prefix(SIZE) {
         let columns: u16 = columns.parse().unwrap_or(20);
@@ -204,15 +213,19 @@ pub(crate) fn comes_true(rt: &impl Abort, alloc: Global, case: &Case) {
             fed = done(&mut session, step, piece, &bindings).expect(rt, "no fault");
         }
         let line = marked(alloc, &session).expect(rt, "memory");
-        let came = match &fed {
-            Fed::Submitted(text) => format!(in alloc; "{SUBMITTED}{text}{line}"),
-            Fed::Ended => format!(in alloc; "{ENDED}{line}"),
-            Fed::Interrupted => format!(in alloc; "{INTERRUPTED}{line}"),
-            Fed::More if session.is_suspended() => format!(in alloc; "{SUSPENDED}{line}"),
-            Fed::More => format!(in alloc; "{line}"),
+        let mark = match &fed {
+            Fed::Submitted(_) => SUBMITTED,
+            Fed::Ended => ENDED,
+            Fed::Interrupted => INTERRUPTED,
+            Fed::More if session.is_suspended() => SUSPENDED,
+            Fed::More => "",
         };
-        let came = came.expect(rt, "memory");
-        holds(rt, came.as_str() == wanted, keys, piece);
-        holds(rt, session.out().written().contains(written), keys, piece);
+        let text = match fed {
+            Fed::Submitted(text) => text,
+            _ => String::new(alloc),
+        };
+        let came = format!(in alloc; "{mark}{text}{line}").expect(rt, "memory");
+        let is_so = came.as_str() == wanted && session.out().written().contains(written);
+        holds(rt, is_so, keys, piece);
     }
 }

@@ -1,10 +1,10 @@
 //! What a terminal asks of its output, and what comes of failures.
 
 use crate::holds;
-use crate::parties::{Failing, NOBODY, Party};
+use crate::parties::{Failing, NOBODY, Party, failing_call};
 use line_buffer::{GraphemeClusterMode, Layout, LineBuffer, Position};
 use line_config::{ReadlineError, Result};
-use line_parts::{CmdKind, DimHints, Highlighter};
+use line_parts::{CmdKind, DimHints, Highlighter, SteadyHighlighter};
 use line_screen::KeyQueue;
 use line_state::{Renderer, Resizable};
 use line_term::Ansi;
@@ -17,10 +17,10 @@ use tests_parties::fault::{Fault, GONE};
 pub(crate) struct Counted {
     bytes: Vec<u8>,
     /// How often it was asked to write.
-    pub(crate) writes: usize,
-    flushes: usize,
+    pub(crate) writes: u64,
+    flushes: u64,
     most: usize,
-    failing: usize,
+    failing: u64,
     fault: Fault,
 }
 
@@ -38,16 +38,16 @@ impl Drop for Counted {
 }
 
 impl Counted {
-    /// An output that takes all at once, and whose write fails if it is the one that does. It has memory for what a session writes.
-    pub(crate) fn failing(alloc: Global, failing: Failing) -> Result<Counted> {
-        let (name, call) = failing;
+    /// An output that takes so many bytes at once, and whose write of this number fails by this fault. It has memory for what a
+    /// session writes.
+    pub(crate) fn new(alloc: Global, most: usize, failing: u64, fault: Fault) -> Result<Counted> {
         Ok(Counted {
             bytes: Vec::with_capacity(alloc, 10_000)?,
             writes: 0,
             flushes: 0,
-            most: usize::MAX,
-            failing: if name == "output" { call } else { 0 },
-            fault: GONE,
+            most,
+            failing,
+            fault,
         })
     }
 
@@ -69,7 +69,7 @@ impl Write for Counted {
     }
 
     fn flush(&mut self) -> io::Result<()> {
-        if self.failing == usize::MAX {
+        if self.failing == u64::MAX {
             return Err(self.fault.cause());
         }
         self.flushes = self.flushes.saturating_add(1);
@@ -79,91 +79,85 @@ impl Write for Counted {
 
 type Terminal = Ansi<Counted, KeyQueue>;
 
-/// Draws a line in full, with a hint after it. The highlighter can fail.
-fn redraw(alloc: Global, terminal: &mut Terminal, failing: Failing) -> Result<()> {
-    let line = LineBuffer::init(alloc, "ab", 2)?;
+/// Draws a line in full after a prompt with these styles, with a hint behind it. The cursor is at the start, or at the end.
+fn redraw<H: SteadyHighlighter>(
+    alloc: Global,
+    terminal: &mut Terminal,
+    (text, at_start): (&str, bool),
+    styled: &str,
+    highlighter: &H,
+) -> Result<()> {
+    let line = LineBuffer::init(alloc, text, if at_start { 0 } else { text.len() })?;
     let begin = terminal.calculate_position("> ", Position { row: 0, col: 0 });
     let layout = terminal.compute_layout(begin, true, &line, Some("c"));
-    terminal.refresh_line(
-        &"> ",
-        &line,
-        Some("c"),
-        None,
-        &layout,
-        Some(&Party::new(alloc, "highlighter", failing)),
-    )
-}
-
-/// Draws a line in full with a styled prompt and a hint that has colors. The match of its bracket
-/// is lit where that is wanted.
-fn redraw_with_colors(terminal: &mut Terminal, line: &LineBuffer, is_lit: bool) -> Result<()> {
-    let begin = terminal.calculate_position("> ", Position { row: 0, col: 0 });
-    let layout = terminal.compute_layout(begin, true, line, Some("c"));
-    let mut highlighter = DimHints::new(is_lit);
-    let _ = highlighter.highlight_char(line.as_str(), line.pos(), CmdKind::Other);
-    terminal.refresh_line(
-        &("> ", "\x1b[1m> "),
-        line,
-        Some("c"),
-        None,
-        &layout,
-        Some(&highlighter),
-    )
+    let prompt = ("> ", styled);
+    terminal.refresh_line(&prompt, &line, Some("c"), None, &layout, Some(highlighter))
 }
 
 /// A text of many bytes.
 const LONG: &str =
-    "xxxxxxxxxxxxxxxxxxxxxxxxxxxxxxxxxxxxxxxxxxxxxxxxxxxxxxxxxxxxxxxxxxxxxxxxxxxxxxxxxxxxxxxxxxxxxxxxxxxxxxxxx";
+    "xxxxxxxxxxxxxxxxxxxxxxxxxxxxxxxxxxxxxxxxxxxxxxxxxxxxxxxxxxxxxxxxxxxxxxxxxxxxxxxxxxxxxxxxxxxxxxxxxxxxxxxxxx";
 
-/// Calls, and the bytes that each writes.
-const CALLS: &[(&str, &str)] = &[
-    ("beep", "\x07"),
-    ("move_cursor", "\x1b[1B\r\x1b[2C"),
-    ("write_and_flush", "xyz"),
-    ("clear_to_eol", "\x1b[K"),
-    ("clear_rows", "\x1b[2A\r\x1b[J"),
-    ("clear_screen", "\x1b[H\x1b[J"),
-    ("enable_bracketed_paste", "\x1b[?2004h"),
-    ("disable_bracketed_paste", "\x1b[?2004l"),
-    ("begin_synchronized_update", "\x1b[?2026h"),
-    ("end_synchronized_update", "\x1b[?2026l"),
+/// A call, the text that it is given, and the bytes that it writes.
+type Call = (&'static str, &'static str, &'static str);
+
+const CALLS: &[Call] = &[
+    ("beep", "", "\x07"),
+    ("move_cursor", "", "\x1b[1B\r\x1b[2C"),
+    ("write_and_flush", "xyz", "xyz"),
+    ("clear_to_eol", "", "\x1b[K"),
+    ("clear_rows", "", "\x1b[2A\r\x1b[J"),
+    ("clear_screen", "", "\x1b[H\x1b[J"),
+    ("enable_bracketed_paste", "", "\x1b[?2004h"),
+    ("disable_bracketed_paste", "", "\x1b[?2004l"),
+    ("begin_synchronized_update", "", "\x1b[?2026h"),
+    ("end_synchronized_update", "", "\x1b[?2026l"),
     (
         "refresh_line",
+        "ab",
         "\x1b[?2026h\r\x1b[J> abc\r\x1b[4C\x1b[?2026l",
     ),
     (
         "colors",
+        "ab",
         "\x1b[?2026h\r\x1b[J\x0f\x1b[1m> \x1b[0m\x0fab\x0f\x1b[2mc\x1b[0m\x1b[0m\x0f\r\x1b[4C\x1b[?2026l",
     ),
     (
         "colors of a bracket",
+        "()",
         "\x1b[?2026h\r\x1b[J\x0f\x1b[1m> \x1b[0m\x0f\x0f(\x1b[1;34m)\x1b[0m\x1b[0m\x0f\x0f\x1b[2mc\x1b[0m\x1b[0m\x0f\r\x1b[2C\x1b[?2026l",
     ),
-    ("a long text", LONG),
+    ("write_and_flush", LONG, LONG),
     (
-        "a text of more than ASCII",
+        "write_and_flush",
+        "e\u{301}日\t\u{85}\r\n",
         "\x0fe\u{301}日\x0f \x0f\x0f\u{fffd}\x0f\r\n\x0f",
     ),
+    // nothing is written for a resize
+    ("resize, beep", "", "\x07"),
 ];
 
-/// Makes the call of this name. A highlighter that it asks can fail.
-fn call(alloc: Global, terminal: &mut Terminal, name: &str, failing: Failing) -> Result<()> {
+/// Resizes a terminal of ten columns. Returns whether it had them, and has the columns and rows of the resize then.
+fn is_resized(terminal: &mut Terminal) -> bool {
+    let had_ten = terminal.get_columns() == 10 && terminal.get_rows() == 24;
+    terminal.resize(3, 7);
+    let end = terminal.calculate_position("abcd", Position { row: 0, col: 0 });
+    let (columns, rows) = (terminal.get_columns(), terminal.get_rows());
+    had_ten && columns == 3 && rows == 7 && end == (Position { row: 1, col: 1 })
+}
+
+/// Makes a call. The highlighter of `refresh_line` can fail.
+fn call(
+    alloc: Global,
+    terminal: &mut Terminal,
+    (name, text, _): Call,
+    failing: Failing,
+) -> Result<()> {
+    let start = Position { row: 0, col: 0 };
     match name {
         "beep" => terminal.beep(),
-        "move_cursor" => {
-            terminal.move_cursor(Position { row: 0, col: 0 }, Position { row: 1, col: 2 })
-        }
-        "write_and_flush" => terminal.write_and_flush("xyz"),
-        "colors" => {
-            let line = LineBuffer::init(alloc, "ab", 2)?;
-            redraw_with_colors(terminal, &line, false)
-        }
-        "colors of a bracket" => {
-            let line = LineBuffer::init(alloc, "()", 0)?;
-            redraw_with_colors(terminal, &line, true)
-        }
-        "a long text" => terminal.write_and_flush(LONG),
-        "a text of more than ASCII" => terminal.write_and_flush("e\u{301}日\t\u{85}\r\n"),
+        "move_cursor" => terminal.move_cursor(start, Position { row: 1, col: 2 }),
+        "write_and_flush" => terminal.write_and_flush(text),
         "clear_to_eol" => terminal.clear_to_eol(),
         "clear_screen" => terminal.clear_screen(),
         "clear_rows" => {
@@ -175,89 +169,81 @@ fn call(alloc: Global, terminal: &mut Terminal, name: &str, failing: Failing) ->
         "disable_bracketed_paste" => terminal.disable_bracketed_paste(),
         "begin_synchronized_update" => terminal.begin_synchronized_update(),
         "end_synchronized_update" => terminal.end_synchronized_update(),
-        _ => redraw(alloc, terminal, failing),
+        "resize, beep" if is_resized(terminal) => terminal.beep(),
+        "refresh_line" => {
+            let highlighter = Party::new(alloc, failing_call(failing, "highlighter"));
+            redraw(alloc, terminal, (text, false), "> ", &highlighter)
+        }
+        "colors" | "colors of a bracket" => {
+            let is_lit = name != "colors";
+            let mut highlighter = DimHints::new(is_lit);
+            let _ = highlighter.highlight_char(text, 0, CmdKind::Other);
+            redraw(alloc, terminal, (text, is_lit), "\x1b[1m> ", &highlighter)
+        }
+        _ => Err(ReadlineError::Eof),
     }
 }
 
-/// How many bytes an output takes at once, who fails, and by an error of which kind, if it is the output.
+/// How a call is asked: how many bytes an output takes at once, who fails, and by an error of which kind, if it is the output.
 type How = (usize, Failing, ErrorKind);
 
-/// Whether a call, on a terminal of ten columns, is asked to write so often, and these bytes are taken; and whether
-/// they are flushed once where it is well, and else it fails by that error and nothing is flushed.
-fn does(alloc: Global, name: &str, how: How, is_well: bool, writes: usize, bytes: &[u8]) -> bool {
+/// What comes of a call: whether it is well, how often the output is asked to write, and how many bytes it takes.
+type Comes = (bool, u64, usize);
+
+/// Whether that comes of a call, on a terminal of ten columns: where it is well, the bytes are flushed once, and else it fails by that
+/// error and nothing is flushed.
+fn does(alloc: Global, asked: Call, how: How, comes: Comes) -> bool {
     let (most, failing, kind) = how;
-    let (party, number) = failing;
-    let out = Counted {
-        bytes: Vec::new(alloc),
-        writes: 0,
-        flushes: 0,
-        most,
-        failing: if party == "output" { number } else { 0 },
-        fault: Fault {
-            kind,
-            text: "the output",
-        },
+    let (is_well, writes, taken) = comes;
+    let fault = Fault {
+        kind,
+        text: "the output",
+    };
+    let Ok(out) = Counted::new(alloc, most, failing_call(failing, "output"), fault) else {
+        return false;
     };
     let mut terminal = Ansi::new(alloc, out, 10, true, true);
-    let is_so = match call(alloc, &mut terminal, name, failing) {
+    let is_so = match call(alloc, &mut terminal, asked, failing) {
         Ok(()) => is_well,
         Err(ReadlineError::Io(error)) => !is_well && error.kind() == kind,
         Err(_) => false,
     };
     let out = terminal.into_out();
-    let asked = (out.writes, out.flushes);
-    is_so && asked == (writes, usize::from(is_well)) && out.bytes.as_slice() == bytes
+    let is_asked = out.writes == writes && out.flushes == u64::from(is_well);
+    is_so && is_asked && out.bytes.as_slice() == asked.2.as_bytes().get(..taken).unwrap_or(b"")
 }
 
-/// Bytes are taken one by one, and the write behind so many of them fails; there is none behind all of them.
+/// Each call writes in one piece and flushes, an interrupted write is tried again, and a flush can fail; where bytes are taken one by
+/// one, the write behind so many of them fails, and there is none behind all of them. So can each call of a highlighter fail, which is
+/// asked for the prompt, the line and the hint.
 #[test]
-fn goes_on_behind_what_was_taken_or_hands_on_the_failure(rt: HostRuntime) {
-    for (name, bytes) in CALLS {
-        let bytes = bytes.as_bytes();
-        for count in 0..=bytes.len() {
-            let next = count.saturating_add(1);
-            let how = (1, ("output", next), ErrorKind::PermissionDenied);
-            let is_well = count == bytes.len();
-            let writes = if is_well { count } else { next };
-            let is_so = does(rt.alloc(), name, how, is_well, writes, &bytes[..count]);
-            holds(&rt, is_so, name, count);
-        }
-    }
-}
-
-/// Each call writes in one piece and flushes, an interrupted write is tried again, and a flush can fail; so can each
-/// call of a highlighter, which is asked for the prompt, the line and the hint.
-#[test]
-fn writes_in_one_piece_and_flushes_or_hands_on_the_failure(rt: HostRuntime) {
+fn writes_and_flushes_or_hands_on_the_failure(rt: HostRuntime) {
     let kind = ErrorKind::PermissionDenied;
-    for (name, bytes) in CALLS {
-        let bytes = bytes.as_bytes();
-        let whole = usize::MAX;
-        for (how, is_well, writes) in [
-            ((whole, NOBODY, kind), true, 1),
-            ((whole, ("output", 1), ErrorKind::Interrupted), true, 2),
-            ((1, ("output", usize::MAX), kind), false, bytes.len()),
-        ] {
-            let is_so = does(rt.alloc(), name, how, is_well, writes, bytes);
-            holds(&rt, is_so, name, writes);
+    let whole = usize::MAX;
+    for asked in CALLS {
+        let len = asked.2.len();
+        let count = len as u64;
+        for number in 0..count.saturating_add(4) {
+            let (next, taken) = (number.saturating_sub(2), number.saturating_sub(3));
+            let (how, comes) = match number {
+                0 => ((whole, NOBODY, kind), (true, 1, len)),
+                1 => (
+                    (whole, ("output", 1), ErrorKind::Interrupted),
+                    (true, 2, len),
+                ),
+                2 => ((1, ("output", u64::MAX), kind), (false, count, len)),
+                _ => {
+                    let comes = (taken == count, next.min(count), taken as usize);
+                    ((1, ("output", next), kind), comes)
+                }
+            };
+            let is_so = does(rt.alloc(), *asked, how, comes);
+            holds(&rt, is_so, asked.0, number as usize);
         }
     }
-    for call in 1..=3 {
-        let how = (usize::MAX, ("highlighter", call), kind);
-        let is_so = does(rt.alloc(), "refresh_line", how, false, 0, b"");
-        holds(&rt, is_so, "highlighter", call);
+    for number in 1..=3 {
+        let how = (whole, ("highlighter", number), kind);
+        let is_so = does(rt.alloc(), ("refresh_line", "ab", ""), how, (false, 0, 0));
+        holds(&rt, is_so, "highlighter", number as usize);
     }
-}
-
-#[test]
-fn has_the_columns_of_the_last_resize(rt: HostRuntime) {
-    let out = Counted::failing(rt.alloc(), NOBODY).expect(&rt, "room");
-    let mut terminal: Terminal = Ansi::new(rt.alloc(), out, 10, true, true);
-    let is_new = (terminal.get_columns(), terminal.get_rows()) == (10, 24);
-    terminal.resize(3, 7);
-    let is_resized = (terminal.get_columns(), terminal.get_rows()) == (3, 7);
-    let end = terminal.calculate_position("abcd", Position { row: 0, col: 0 });
-    let is_measured = end == Position { row: 1, col: 1 };
-    let is_silent = terminal.into_out().writes == 0;
-    holds(&rt, is_new && is_resized && is_measured && is_silent, "", 0);
 }

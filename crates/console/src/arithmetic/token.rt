@@ -73,7 +73,14 @@ fn passes(kind: Kind, byte: u8) -> bool
 fn run_len(bytes: &[u8], kind: Kind) -> usize
     ensures { result ≡ prefix_len (passes kind) bytes.now }
 {
-    bytes.iter().take_while(|byte| passes(kind, **byte)).count()
+    let mut len = 0;
+    for byte in bytes {
+        if !passes(kind, *byte) {
+            break;
+        }
+        len += 1;
+    }
+    len
 }
 
 // Returns the end of the bytes of a kind from a place on.
