@@ -87,7 +87,10 @@ fn redraw<H: SteadyHighlighter>(
     styled: &str,
     highlighter: &H,
 ) -> Result<()> {
-    let line = LineBuffer::init(alloc, text, if at_start { 0 } else { text.len() })?;
+    let mut line = LineBuffer::init(alloc, text, text.len())?;
+    if at_start {
+        line.move_buffer_start();
+    }
     let begin = terminal.calculate_position("> ", Position { row: 0, col: 0 });
     let layout = terminal.compute_layout(begin, true, &line, Some("c"));
     let prompt = ("> ", styled);
