@@ -1,5 +1,5 @@
 -- Facts on turns that are taken one after another.
-use Rattle.std.proofs.Common.{◌≡◌, ◌∙◌, inl, inr, ℕ, Bool, true, false, List, [], ◌∷◌, Option, Some, None, refl, sym, ap, subst, arith}
+use Rattle.std.proofs.Common.{◌≡◌, ◌∙◌, inl, inr, ℕ, true, false, List, [], ◌∷◌, Option, Some, None, refl, sym, ap, subst, arith}
 use Rattle.line_buffer.specs.KillRing.{Ring, with_last}
 use Rattle.line_buffer.specs.KillRing as rings
 use Rattle.line_config.specs.Settings.{Settings}
@@ -24,9 +24,9 @@ use Rattle.line_editor.specs.Step.{step}
 use Rattle.line_editor.specs.declared.run.Turned.{Turned}
 use Rattle.line_editor.specs.declared.run.Turned.TheVariants as turned
 use Rattle.line_editor.proofs.DrawnLemmas.{frame_then}
-use Rattle.line_session.specs.Steps.{DoesItem, Ends, ItemTaken, NoneComesIn, Rules, Standing, Steps, TurnFrom, as_it_is, character_of, comes_in, reads_no_command, typing}
+use Rattle.line_session.specs.Steps.{DoesItem, Ends, ItemTaken, NoneComesIn, Rules, Steps, TurnFrom, as_it_is, character_of, comes_in, reads_no_command, typing}
 use Rattle.line_session.specs.Steps as steps
-use Rattle.line_session.specs.Taken.{ComesTo, DrawnBehind, DrawnOnce, IsShown, IsShownIn, IsShownWith, KeepsRules, PutsIn, TakesItem, TakesOne, WaitsBehind, is_settled, rules_by, rules_of, standing_of, start_of}
+use Rattle.line_session.specs.Taken.{ComesTo, DrawnBehind, DrawnOnce, IsShown, IsShownIn, IsShownWith, KeepsRules, PutsIn, TakesItem, TakesOne, WaitsBehind, is_settled, rules_by, rules_of, standing_of}
 use Rattle.line_session.specs.declared.mode.Mode.{Mode}
 use Rattle.line_session.specs.declared.mode.Mode.TheVariants as modes
 use Rattle.line_session.proofs.DrawLemmas.{drawn_or_kept, line_by, shown_by}
@@ -265,13 +265,3 @@ stops_drawn e items items' turned.Submitted then_ state goes more drawn = drawn
 stops_drawn e items items' turned.Ended then_ state goes more drawn = drawn
 stops_drawn e items items' turned.Interrupted then_ state goes more drawn = drawn
 stops_drawn e items items' turned.NeedsMore then_ state goes more drawn = absurd (more refl)
-
--- turns that were taken once the line was drawn that was to be drawn come from where the call begins
-pub comes_begun : {X Y : Type 0} (e : editors.Ghosts X) (r : readers.Ghosts Y) (settings : Settings) (draws : Bool) (mode next : Mode) (before : Session X Y) (state : X) (settled : Bool) (end : Standing) (done : Turned)
-    → start_of e r draws mode before ≡ standing_of e r next (session state before.keys before.reader before.kills) → Frame e before.state state
-    → ComesTo settled (rules_of e r settings (session state before.keys before.reader before.kills)) (standing_of e r next (session state before.keys before.reader before.kills)) end done
-    → ComesTo settled (rules_of e r settings before) (start_of e r draws mode before) end done
-comes_begun e r settings draws mode next before state settled end done starts frame comes =
-    subst (λ s. ComesTo settled (rules_of e r settings before) s end done) (sym starts)
-    (subst (λ by. ComesTo settled by (standing_of e r next (session state before.keys before.reader before.kills)) end done)
-    (rules_stay e (keymap_of before.keys (r.own_binding (r.kept before.reader))) settings before.state state frame) comes)

@@ -12,7 +12,7 @@ use Rattle.line_keys.specs.Draft.{Draft, hinted}
 use Rattle.line_parts.specs.Environment.{Environment}
 use Rattle.line_editor.specs.Completing.{taken_back_once}
 use Rattle.line_editor.specs.HistoryMoves.{at_index, boundary_or_end, is_boundary, is_own_line, put_alone, text_grows, text_put}
-use Rattle.line_session.specs.OneSearch.{GivingUpSearchRestores, Restores, SearchIsOneChange, SearchedThrough}
+use Rattle.line_session.specs.OneSearch.{GivingUpSearchRestores, SearchIsOneChange, SearchedThrough}
 use Rattle.line_session.specs.OneSearch as one_search
 use Rattle.line_session.specs.Searching.{Search, ShowsSearch, back_to, before_search, found_grows, found_put, grown_by, led_to, place_put, search_of}
 use Rattle.line_session.specs.declared.mode.Mode.{Mode}

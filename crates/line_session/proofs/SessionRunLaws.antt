@@ -10,7 +10,7 @@ use Rattle.line_editor.specs.Run.{End, Run, Turn, dry, ready, stopped}
 use Rattle.line_editor.specs.Step.{step}
 use Rattle.line_session.specs.SessionIsRun.{RunLeavesNone, RunsPlainly, SessionIsRun, SessionPlainly, StepsLeaveNone, reading_commands}
 use Rattle.line_session.specs.Steps as steps
-use Rattle.line_session.specs.Steps.{AnswersTurn, DoesCommand, Ends, Executes, Rules, Standing, Steps, TurnFrom, Waits, WaitsIn, reads_no_command}
+use Rattle.line_session.specs.Steps.{AnswersTurn, DoesCommand, Executes, Rules, Standing, Steps, TurnFrom, WaitsIn, reads_no_command}
 use Rattle.line_session.specs.declared.mode.Mode.{Mode}
 use Rattle.line_session.specs.declared.mode.Mode.TheVariants.{Editing}
 

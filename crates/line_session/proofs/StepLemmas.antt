@@ -1,14 +1,10 @@
 -- Facts on steps.
-use Rattle.std.proofs.Common.{◌≡◌, ◌∙◌, sym, Bool, true, false, List, refl, ap, if◌then◌else◌}
-use Rattle.line_buffer.specs.KillRing.{Ring}
+use Rattle.std.proofs.Common.{◌≡◌, Bool, true, false, List, refl, ap, if◌then◌else◌}
 use Rattle.line_editor.specs.Editor.{Answer}
-use Rattle.line_editor.specs.Input.{Input}
-use Rattle.line_keys.specs.Draft.{Draft, hinted}
 use Rattle.line_keys.specs.Item.{Item, key}
 use Rattle.line_keys.specs.declared.keys.KeyEvent.{KeyEvent}
 use Rattle.line_parts.specs.Environment.{Environment}
 use Rattle.line_session.specs.Pieces.{with_more}
-use Rattle.line_session.specs.Sitting.{standing_with}
 use Rattle.line_session.specs.Steps.{Ends, Rules, Standing, Steps, comes_in, is_suspended, once_drawn, resumed, shows_line, starting, reads_no_command}
 use Rattle.line_session.specs.Steps as steps
 use Rattle.line_session.specs.declared.listing.Listing.{Listing}
@@ -82,25 +78,6 @@ starts_by w draws found suspended =
 pub starts_so : (w : Environment) (draws : Bool) (found : Standing) (suspended : Bool) → is_suspended found.mode ≡ suspended
     → starting w draws found ≡ starts_by w draws found suspended
 starts_so w draws found suspended is = ap (λ b. starts_by w draws found b) is
-
--- where a call begins: a program that was suspended has gone on, the line was drawn, or all is as it was
-pub starts_resumed : (w : Environment) (draws : Bool) (draft drawn : Draft) (input : Input) (mode : Mode) (items : List Item) (kills : Ring) → is_suspended mode ≡ true → drawn ≡ hinted w draft
-    → starting w draws (standing_with draft input mode items kills) ≡ standing_with drawn input modes.Editing items kills
-starts_resumed w draws draft drawn input mode items kills suspended same =
-    starts_so w draws (standing_with draft input mode items kills) true suspended ∙ ap (λ d. standing_with d input modes.Editing items kills) (sym same)
-
-pub starts_drawn : (w : Environment) (draws : Bool) (draft drawn : Draft) (input : Input) (mode : Mode) (items : List Item) (kills : Ring) → is_suspended mode ≡ false → draws ≡ true
-    → drawn ≡ hinted w draft → starting w draws (standing_with draft input mode items kills) ≡ standing_with drawn input mode items kills
-starts_drawn w draws draft drawn input mode items kills goes_on is same =
-    starts_so w draws (standing_with draft input mode items kills) false goes_on
-    ∙ ap (λ b. starts_by w b (standing_with draft input mode items kills) false) is
-    ∙ ap (λ d. standing_with d input mode items kills) (sym same)
-
-pub starts_there : (w : Environment) (draws : Bool) (draft : Draft) (input : Input) (mode : Mode) (items : List Item) (kills : Ring) → is_suspended mode ≡ false → draws ≡ false
-    → starting w draws (standing_with draft input mode items kills) ≡ standing_with draft input mode items kills
-starts_there w draws draft input mode items kills goes_on is =
-    starts_so w draws (standing_with draft input mode items kills) false goes_on
-    ∙ ap (λ b. starts_by w b (standing_with draft input mode items kills) false) is
 
 -- more items stay behind those of where a call begins
 pub starts_more : (w : Environment) (draws : Bool) (more : List Item) (found : Standing) → starting w draws (with_more more found) ≡ with_more more (starting w draws found)

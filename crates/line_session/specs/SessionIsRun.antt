@@ -43,8 +43,8 @@ SessionPlainly by over_calls start last input (stopped answer rest) =
 SessionPlainly by over_calls start last input (dry items) =
     (waits : Waits by start (reading_commands last input items)) × StepsLeaveNone waits.steps
 
--- from where commands are read, and with none of those among them that are left to the program, what a line comes to, in a call or over
--- several, is a run of the abstract editor: the one has this end just where the other has it
+-- from where commands are read, with none of those among them that are left to the program and no item taken by itself, what a line comes
+-- to, in a call or over several, is a run of the abstract editor: the one has this end just where the other has it
 abbrev pub SessionIsRun : Type 0
 SessionIsRun = (by : Rules) (over_calls : Bool) (start : Standing) (last : Editor) (input : Input) (end : End) → start.mode ≡ Editing
     → RunsPlainly by start last input end ↔ SessionPlainly by over_calls start last input end

@@ -44,9 +44,9 @@ pub fn giving_a_search_up_restores()
     ensures { GivingUpSearchRestores }
 {}
 
-/// From where commands are read, and with none of those among them that are left to the program, what a line comes to, in a call or
-/// over several, is a run of the abstract editor: turns that proceed and one that does not, or items that run out. The one has an
-/// end just where the other has it.
+/// From where commands are read, with none of those among them that are left to the program and no item taken by itself (as a text
+/// that is pasted between two commands is), what a line comes to, in a call or over several, is a run of the abstract editor: turns
+/// that proceed and one that does not, or items that run out. The one has an end just where the other has it.
 pub fn a_session_is_a_run()
     ensures { SessionIsRun }
 {}

@@ -1,4 +1,4 @@
-use Rattle.std.proofs.Common.{◌∙◌, option_map, refl, sym, ap, string_bytes}
+use Rattle.std.proofs.Common.{◌∙◌, option_map, sym, ap, string_bytes}
 use Rattle.line_parts.specs.History.{found_of, search_in}
 use Rattle.line_session.specs.Searching.{next_place}
 use Rattle.line_session.proofs.SearchingLemmas.{seeks_so}
