@@ -14,13 +14,13 @@ use Rattle.console.specs.declared.arithmetic.operator.Operator.TheVariants.{Plus
 use Rattle.console.specs.declared.arithmetic.token.Kind.TheVariants.{Blank, Digit, Word}
 use Rattle.console.specs.declared.arithmetic.token.Read.{Read}
 use Rattle.console.specs.Grammar.{Symbol, figure, word, sign, opening, closing, equals}
-use Rattle.console.specs.Spelling.{Spells, nothing, blank, mark, digits, letters, is_blank, begins_name, goes_on_name, passes, mark_of}
-use Rattle.console.specs.Tokens.{EndsAt, HasRoom, IsTooLargeAt, IsUnblankAt, LeadsOnlyTo}
-use Rattle.console.specs.Expression.{fitting}
+use Rattle.console.specs.Spelling.{Spells, nothing, blank, mark, digits, letters, is_blank_byte, begins_name, goes_on_name, passes, mark_of}
+use Rattle.console.specs.Tokens.{EndsAt, IsInRange, IsTooLargeAt, IsUnblankAt, SpellsOnlyUpTo}
+use Rattle.console.specs.Expression.{in_range}
 
 -- the byte of a symbol is no blank, no digit and no letter
 record IsMark (b : ℕ) : Type 0 where
-  pub no_blank : is_blank b ≡ false
+  pub no_blank : is_blank_byte b ≡ false
   pub no_digit : is_ascii_digit b ≡ false
   pub no_letter : begins_name b ≡ false
 
@@ -61,7 +61,7 @@ same_mark s t b one other = (cc (symbol_with-mark s b one, symbol_with-mark t b 
 
 -- what a text that begins with a byte spells first
 data First (b : ℕ) (rest : List ℕ) (all : List Symbol) : Type 0 where
-  of_blank : is_blank b ≡ true → Spells rest all → First b rest all
+  of_blank : is_blank_byte b ≡ true → Spells rest all → First b rest all
   of_mark : (s : Symbol) (more : List Symbol) → mark_of s ≡ Some b → all ≡ s ∷ more → Spells rest more → First b rest all
   of_digits : (more : List Symbol) → is_ascii_digit b ≡ true → all ≡ figure (pos (digits_value 10 (take_while is_ascii_digit (b ∷ rest)))) ∷ more
       → Spells (drop (prefix_len is_ascii_digit (b ∷ rest)) (b ∷ rest)) more → First b rest all
@@ -87,7 +87,7 @@ first_spelled b rest (blank {rest = left} {symbols = symbols} {b = c} is spelled
     let h = sym split ∙ begins in
     let byte : c ≡ b = cc in
     let tail : left ≡ rest = cc in
-    of_blank (subst (λ k. is_blank k ≡ true) byte is) (subst (λ xs. Spells xs symbols) tail spelled)
+    of_blank (subst (λ k. is_blank_byte k ≡ true) byte is) (subst (λ xs. Spells xs symbols) tail spelled)
 first_spelled b rest (mark {rest = left} {symbols = symbols} {s = s} {b = c} is spelled split) begins =
     let h = sym split ∙ begins in
     let byte : c ≡ b = cc in
@@ -107,10 +107,10 @@ first_spelled b rest (letters {text = text} {rest = left} {symbols = symbols} {r
     (subst (λ xs. Spells xs symbols) (behind_run goes_on_name text run left is split ∙ ap (λ t. drop (prefix_len goes_on_name t) t) begins) spelled)
 
 -- the classes of bytes are apart
-blank_no_digit : (b : ℕ) → is_blank b ≡ true → is_ascii_digit b ≡ true → ⊥
+blank_no_digit : (b : ℕ) → is_blank_byte b ≡ true → is_ascii_digit b ≡ true → ⊥
 blank_no_digit b one other = grind (arith, nat_tests)
 
-blank_no_letter : (b : ℕ) → is_blank b ≡ true → begins_name b ≡ true → ⊥
+blank_no_letter : (b : ℕ) → is_blank_byte b ≡ true → begins_name b ≡ true → ⊥
 blank_no_letter b one other = grind (arith, nat_tests)
 
 digit_no_letter : (b : ℕ) → is_ascii_digit b ≡ true → begins_name b ≡ true → ⊥
@@ -152,7 +152,7 @@ module _ (text : List ℕ) (start : ℕ) (within : start < length text) where
   mark_by s all begins (of_letters more is same spelled) = (cc ((mark_is s (get_or text start 0) begins).no_letter, is))
 
   -- nothing begins with another byte
-  nothing_by : (all : List Symbol) → is_blank (get_or text start 0) ≡ false → is_ascii_digit (get_or text start 0) ≡ false
+  nothing_by : (all : List Symbol) → is_blank_byte (get_or text start 0) ≡ false → is_ascii_digit (get_or text start 0) ≡ false
       → begins_name (get_or text start 0) ≡ false → ((s : Symbol) → mark_of s ≢ Some (get_or text start 0))
       → First (get_or text start 0) (drop (start + 1) text) all → ⊥
   nothing_by all b d l m (of_blank is spelled) = (cc (b, is))
@@ -161,26 +161,26 @@ module _ (text : List ℕ) (start : ℕ) (within : start < length text) where
   nothing_by all b d l m (of_letters more is same spelled) = (cc (l, is))
 
   pub only_name : (end : ℕ) → begins_name (get_or text start 0) ≡ true → end ≡ start + prefix_len (passes Word) (drop start text)
-      → LeadsOnlyTo text start (word (take_while goes_on_name (drop start text)) ∷ []) end
+      → SpellsOnlyUpTo text start (word (take_while goes_on_name (drop start text)) ∷ []) end
   only_name end begins is = λ all spelled.
       let by = name_by all begins (first_at all spelled) in
       (by.0, by.1, subst (λ xs. Spells xs by.0) (drop-drop _ start text ∙ ap (λ k. drop k text) (sym is)) by.2)
 
   pub only_number : (end : ℕ) → is_ascii_digit (get_or text start 0) ≡ true → end ≡ start + prefix_len (passes Digit) (drop start text)
-      → LeadsOnlyTo text start (figure (pos (digits_value 10 (take_while is_ascii_digit (drop start text)))) ∷ []) end
+      → SpellsOnlyUpTo text start (figure (pos (digits_value 10 (take_while is_ascii_digit (drop start text)))) ∷ []) end
   only_number end begins is = λ all spelled.
       let by = number_by all begins (first_at all spelled) in
       (by.0, by.1, subst (λ xs. Spells xs by.0) (drop-drop _ start text ∙ ap (λ k. drop k text) (sym is)) by.2)
 
-  pub only_mark : (s : Symbol) → mark_of s ≡ Some (get_or text start 0) → LeadsOnlyTo text start (s ∷ []) (start + 1)
+  pub only_mark : (s : Symbol) → mark_of s ≡ Some (get_or text start 0) → SpellsOnlyUpTo text start (s ∷ []) (start + 1)
   only_mark s begins = λ all spelled. mark_by s all begins (first_at all spelled)
 
-  pub only_end : is_blank (get_or text start 0) ≡ false → is_ascii_digit (get_or text start 0) ≡ false
+  pub only_end : is_blank_byte (get_or text start 0) ≡ false → is_ascii_digit (get_or text start 0) ≡ false
       → begins_name (get_or text start 0) ≡ false → ((s : Symbol) → mark_of s ≢ Some (get_or text start 0)) → EndsAt text start
   only_end b d l m = λ all spelled. absurd (nothing_by all b d l m (first_at all spelled))
 
 -- where no symbol of one byte was read either, nothing is spelled
-pub other_ends : (text : List ℕ) (start : ℕ) → start < length text → (b : ℕ) → get_or text start 0 ≡ b → is_blank (get_or text start 0) ≡ false
+pub other_ends : (text : List ℕ) (start : ℕ) → start < length text → (b : ℕ) → get_or text start 0 ≡ b → is_blank_byte (get_or text start 0) ≡ false
     → is_ascii_digit b ≡ false → begins_name b ≡ false → (read : Option Read) → IfNone read ((s : Symbol) → mark_of s ≢ Some b)
     → IfNone read (EndsAt text start)
 other_ends text start within b is no_blank no_digit no_letter None no_mark =
@@ -188,22 +188,22 @@ other_ends text start within b is no_blank no_digit no_letter None no_mark =
 other_ends text start within b is no_blank no_digit no_letter (Some read) no_mark = no_mark
 
 -- blanks at the front are read in one way alone
-skips_back_one : (b : ℕ) (bs : List ℕ) (all : List Symbol) (c : Bool) → is_blank b ≡ c → First b bs all → Spells (b ∷ bs) all
-    → (Spells bs all → Spells (drop (prefix_len is_blank bs) bs) all)
-    → Spells (drop (cond c (1 + prefix_len is_blank bs) 0) (b ∷ bs)) all
+skips_back_one : (b : ℕ) (bs : List ℕ) (all : List Symbol) (c : Bool) → is_blank_byte b ≡ c → First b bs all → Spells (b ∷ bs) all
+    → (Spells bs all → Spells (drop (prefix_len is_blank_byte bs) bs) all)
+    → Spells (drop (cond c (1 + prefix_len is_blank_byte bs) 0) (b ∷ bs)) all
 skips_back_one b bs all false is first spelled behind = spelled
 skips_back_one b bs all true is (of_blank blank_is rest) spelled behind =
-    let size : suc (prefix_len is_blank bs) ≡ 1 + prefix_len is_blank bs = omega arith in
+    let size : suc (prefix_len is_blank_byte bs) ≡ 1 + prefix_len is_blank_byte bs = omega arith in
     subst (λ n. Spells (drop n (b ∷ bs)) all) size (behind rest)
 skips_back_one b bs all true is (of_mark s more mark_here same rest) spelled behind = (cc ((mark_is s b mark_here).no_blank, is))
 skips_back_one b bs all true is (of_digits more digit same rest) spelled behind = absurd (blank_no_digit b is digit)
 skips_back_one b bs all true is (of_letters more letter same rest) spelled behind = absurd (blank_no_letter b is letter)
 
-skips_back : (xs : List ℕ) (all : List Symbol) → Spells xs all → Spells (drop (prefix_len is_blank xs) xs) all
+skips_back : (xs : List ℕ) (all : List Symbol) → Spells xs all → Spells (drop (prefix_len is_blank_byte xs) xs) all
 skips_back [] all spelled = spelled
-skips_back (b ∷ bs) all spelled = skips_back_one b bs all (is_blank b) refl (first_spelled b bs spelled refl) spelled (skips_back bs all)
+skips_back (b ∷ bs) all spelled = skips_back_one b bs all (is_blank_byte b) refl (first_spelled b bs spelled refl) spelled (skips_back bs all)
 
-pub only_blanks : (text : List ℕ) (start end : ℕ) → end ≡ start + prefix_len (passes Blank) (drop start text) → LeadsOnlyTo text start [] end
+pub only_blanks : (text : List ℕ) (start end : ℕ) → end ≡ start + prefix_len (passes Blank) (drop start text) → SpellsOnlyUpTo text start [] end
 only_blanks text start end is = λ all spelled.
     (all, refl, subst (λ xs. Spells xs all) (drop-drop _ start text ∙ ap (λ k. drop k text) (sym is)) (skips_back (drop start text) all spelled))
 
@@ -226,15 +226,15 @@ end_ends text start bound past = λ all spelled. (omega arith, nothing_spelled (
     nothing_spelled xs all (letters run_is first letter spelled split) is = (cc (sym first ∙ run_is ∙ ap (take_while goes_on_name) is))
 
 -- what leads on alone, and on from there
-pub LeadsOnlyTo-joined : (text : List ℕ) (start middle end : ℕ) (xs ys : List Symbol) → LeadsOnlyTo text start xs middle → LeadsOnlyTo text middle ys end
-    → LeadsOnlyTo text start (xs ++ ys) end
+pub LeadsOnlyTo-joined : (text : List ℕ) (start middle end : ℕ) (xs ys : List Symbol) → SpellsOnlyUpTo text start xs middle → SpellsOnlyUpTo text middle ys end
+    → SpellsOnlyUpTo text start (xs ++ ys) end
 LeadsOnlyTo-joined text start middle end xs ys one other = λ all spelled.
     let first = one all spelled in
     let second = other first.0 first.2 in
     (second.0, first.1 ∙ ap (λ zs. xs ++ zs) second.1 ∙ sym (append_assoc xs ys second.0), second.2)
 
 -- the tokens of a text are all that it spells
-pub only_whole : (text : List ℕ) (symbols : List Symbol) (end : ℕ) → LeadsOnlyTo text 0 symbols end → EndsAt text end
+pub only_whole : (text : List ℕ) (symbols : List Symbol) (end : ℕ) → SpellsOnlyUpTo text 0 symbols end → EndsAt text end
     → (all : List Symbol) → Spells text all → (end ≡ length text) × (all ≡ symbols)
 only_whole text symbols end only ends all spelled =
     let behind = only all spelled in
@@ -247,13 +247,13 @@ All-behind P [] ys all = all
 All-behind P (x ∷ xs) ys all = All-behind P xs ys (All-tail P x (xs ++ ys) all)
 
 -- a number that is too large further on
-pub too_large_behind : (text : List ℕ) (symbols : List Symbol) (place : ℕ) → LeadsOnlyTo text 0 symbols place → IsTooLargeAt text place → IsTooLargeAt text 0
+pub too_large_behind : (text : List ℕ) (symbols : List Symbol) (place : ℕ) → SpellsOnlyUpTo text 0 symbols place → IsTooLargeAt text place → IsTooLargeAt text 0
 too_large_behind text symbols place only large = λ all spelled room.
     let behind = only all spelled in
-    large behind.0 behind.2 (All-behind HasRoom symbols behind.0 (subst (All HasRoom) behind.1 room))
+    large behind.0 behind.2 (All-behind IsInRange symbols behind.0 (subst (All IsInRange) behind.1 room))
 
 -- a number that is too large here
-pub too_large_here : (text : List ℕ) (start end : ℕ) (x : ℤ) → LeadsOnlyTo text start (figure x ∷ []) end → fitting x ≡ None → IsTooLargeAt text start
+pub too_large_here : (text : List ℕ) (start end : ℕ) (x : ℤ) → SpellsOnlyUpTo text start (figure x ∷ []) end → in_range x ≡ None → IsTooLargeAt text start
 too_large_here text start end x only none = λ all spelled room.
     let behind = only all spelled in
-    All-head HasRoom (figure x) behind.0 (subst (All HasRoom) behind.1 room) none
+    All-head IsInRange (figure x) behind.0 (subst (All IsInRange) behind.1 room) none

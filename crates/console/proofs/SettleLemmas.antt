@@ -10,9 +10,9 @@ use Rattle.console.specs.declared.arithmetic.operator.Rank.TheVariants.{Sum, Fac
 use Rattle.console.specs.declared.arithmetic.parts.Fault.{Fault}
 use Rattle.console.specs.declared.arithmetic.parts.Part.{Part}
 use Rattle.console.specs.declared.arithmetic.token.Placed.{Placed}
-use Rattle.console.specs.Expression.{Expression, number, name, negation, operation, fitting, value_of, result_of}
-use Rattle.console.specs.Grammar.{Symbol, figure, word, sign, opening, closing, equals, Writes, by_figure, by_word, by_negation, by_brackets, IsClosed, looseness, rank_of, tighter}
-use Rattle.console.specs.Parts.{IsAt, Settles, SettlesAll}
+use Rattle.console.specs.Expression.{Expression, number, name, negation, operation, in_range, worth_of, result_of}
+use Rattle.console.specs.Grammar.{Symbol, figure, word, sign, opening, closing, equals, Derives, by_figure, by_word, by_negation, by_brackets, IsClosed, looseness, rank_of, tighter}
+use Rattle.console.specs.Parts.{IsSymbolAt, Settles, SettlesAll}
 use Rattle.console.specs.Refusals.{Explains, complaint_of}
 use Rattle.console.specs.Tokens.{symbols_of}
 use Rattle.console.proofs.GrammarLemmas.{GoesOn, ends, goes, splits, closed_on, right_none, value_of-operation, none_goes_on, Explains-whole}
@@ -20,14 +20,14 @@ use Rattle.console.proofs.PartLemmas.{fitting-fits}
 
 -- ---- factors by their first symbols
 
-figure_factor : {used : List Symbol} {e : Expression} (x : ℤ) (behind rest : List Symbol) → Writes Factor used e → figure x ∷ behind ≡ used ++ rest
+figure_factor : {used : List Symbol} {e : Expression} (x : ℤ) (behind rest : List Symbol) → Derives Factor used e → figure x ∷ behind ≡ used ++ rest
     → (number x ≡ e) × (behind ≡ rest)
 figure_factor x behind rest (by_figure is) split = let h = split ∙ ap (λ xs. xs ++ rest) is in ((cc), (cc))
 figure_factor x behind rest (by_word is) split = let h = split ∙ ap (λ xs. xs ++ rest) is in cc
 figure_factor x behind rest (by_negation written is) split = let h = split ∙ ap (λ xs. xs ++ rest) is in cc
 figure_factor x behind rest (by_brackets written is) split = let h = split ∙ ap (λ xs. xs ++ rest) is in cc
 
-word_factor : {used : List Symbol} {e : Expression} (bytes : List ℕ) (behind rest : List Symbol) → Writes Factor used e → word bytes ∷ behind ≡ used ++ rest
+word_factor : {used : List Symbol} {e : Expression} (bytes : List ℕ) (behind rest : List Symbol) → Derives Factor used e → word bytes ∷ behind ≡ used ++ rest
     → (name bytes ≡ e) × (behind ≡ rest)
 word_factor bytes behind rest (by_figure is) split = let h = split ∙ ap (λ xs. xs ++ rest) is in cc
 word_factor bytes behind rest (by_word is) split = let h = split ∙ ap (λ xs. xs ++ rest) is in ((cc), (cc))
@@ -38,11 +38,11 @@ word_factor bytes behind rest (by_brackets written is) split = let h = split ∙
 record Inner (rank : Rank) (behind rest : List Symbol) (whole : Expression → Expression) (e : Expression) : Type 0 where
   pub inner : List Symbol
   pub expression : Expression
-  pub written : Writes rank inner expression
+  pub written : Derives rank inner expression
   pub split : behind ≡ inner ++ rest
   pub same : whole expression ≡ e
 
-minus_factor : {used : List Symbol} {e : Expression} (behind rest : List Symbol) → Writes Factor used e → sign Minus ∷ behind ≡ used ++ rest
+minus_factor : {used : List Symbol} {e : Expression} (behind rest : List Symbol) → Derives Factor used e → sign Minus ∷ behind ≡ used ++ rest
     → Inner Factor behind rest negation e
 minus_factor behind rest (by_figure is) split = let h = split ∙ ap (λ xs. xs ++ rest) is in cc
 minus_factor behind rest (by_word is) split = let h = split ∙ ap (λ xs. xs ++ rest) is in cc
@@ -50,7 +50,7 @@ minus_factor behind rest (by_negation {inner = inner} {e = e} written is) split 
     let h = split ∙ ap (λ xs. xs ++ rest) is in record { inner = inner; expression = e; written = written; split = cc; same = refl }
 minus_factor behind rest (by_brackets written is) split = let h = split ∙ ap (λ xs. xs ++ rest) is in cc
 
-bracket_factor : {used : List Symbol} {e : Expression} (behind rest : List Symbol) → Writes Factor used e → opening ∷ behind ≡ used ++ rest
+bracket_factor : {used : List Symbol} {e : Expression} (behind rest : List Symbol) → Derives Factor used e → opening ∷ behind ≡ used ++ rest
     → Inner Sum behind (closing ∷ rest) (λ x. x) e
 bracket_factor behind rest (by_figure is) split = let h = split ∙ ap (λ xs. xs ++ rest) is in cc
 bracket_factor behind rest (by_word is) split = let h = split ∙ ap (λ xs. xs ++ rest) is in cc
@@ -80,7 +80,7 @@ record Begins (used : List Symbol) : Type 0 where
   pub split : used ≡ head ∷ behind
   pub is : begins_factor head ≡ true
 
-factor_begins : {used : List Symbol} {e : Expression} → Writes Factor used e → Begins used
+factor_begins : {used : List Symbol} {e : Expression} → Derives Factor used e → Begins used
 factor_begins (by_figure {x = x} is) = record { head = figure x; behind = []; split = is; is = refl }
 factor_begins (by_word {bytes = bytes} is) = record { head = word bytes; behind = []; split = is; is = refl }
 factor_begins (by_negation {inner = inner} written is) = record { head = sign Minus; behind = inner; split = is; is = refl }
@@ -92,7 +92,7 @@ record NextOperand (rank : Rank) (o : Operator) (a : Expression) (behind rest : 
   pub operand : Expression
   pub on : List Symbol
   pub split : behind ≡ right ++ (on ++ rest)
-  pub written : Writes (tighter rank) right operand
+  pub written : Derives (tighter rank) right operand
   pub goes_on : GoesOn rank (operation o a operand) on e
 
 next_operand : {rank : Rank} {a e : Expression} {on : List Symbol} (o : Operator) (behind rest : List Symbol) → GoesOn rank a on e
@@ -108,7 +108,7 @@ next_operand {rank} {e = e} o behind rest (goes {a = a} {b = b} {right = right} 
     record { right = right; operand = b; on = more; split = tail ∙ append_assoc right more rest; written = written; goes_on = subst (λ q. GoesOn rank (operation q a b) more e) (sym same) on }
 
 -- the complaint on an operation explains that it has no value
-explains_operation : (named : List ℕ → Option ℤ) (o : Operator) (x : ℤ) (e : Expression) → value_of named e ≡ None → Explains named (complaint_of o x) e
+explains_operation : (named : List ℕ → Option ℤ) (o : Operator) (x : ℤ) (e : Expression) → worth_of named e ≡ None → Explains named (complaint_of o x) e
 explains_operation named Plus x e none = none
 explains_operation named Minus x e none = none
 explains_operation named Times x e none = none
@@ -122,64 +122,64 @@ explains_operation named Remainder (negsuc n) e none = none
 module _ (tokens : List Placed) (named : List ℕ → Option ℤ) (start : ℕ) where
   -- ---- what factors settle
 
-  pub figure_settles : (x : ℤ) (part : Part) → IsAt tokens start (figure x) → FitsSigned w64 x → part ≡ record { value = x; next = start + 1 }
+  pub figure_settles : (x : ℤ) (part : Part) → IsSymbolAt tokens start (figure x) → FitsSigned w64 x → part ≡ record { value = x; next = start + 1 }
       → Settles tokens named Factor start (Ok part)
-  unfolding value_of
+  unfolding worth_of
   figure_settles x part at fits made = subst (λ p. Settles tokens named Factor start (Ok p)) (sym made) (λ used rest e split written closed.
       let is = figure_factor x _ rest written (sym at.split ∙ split) in
-      (ap (value_of named) (sym is.0) ∙ fitting-fits x fits, is.1))
+      (ap (worth_of named) (sym is.0) ∙ fitting-fits x fits, is.1))
 
-  pub word_settles : (bytes : List ℕ) (part : Part) → IsAt tokens start (word bytes) → named bytes ≡ Some part.value → part.next ≡ start + 1
+  pub word_settles : (bytes : List ℕ) (part : Part) → IsSymbolAt tokens start (word bytes) → named bytes ≡ Some part.value → part.next ≡ start + 1
       → Settles tokens named Factor start (Ok part)
-  unfolding value_of
+  unfolding worth_of
   word_settles bytes part at known next = λ used rest e split written closed.
       let is = word_factor bytes _ rest written (sym at.split ∙ split) in
-      (ap (value_of named) (sym is.0) ∙ known, ap (λ k. drop k (symbols_of tokens)) next ∙ is.1)
+      (ap (worth_of named) (sym is.0) ∙ known, ap (λ k. drop k (symbols_of tokens)) next ∙ is.1)
 
-  pub word_unknown : (bytes : List ℕ) (token : ℕ) → IsAt tokens start (word bytes) → named bytes ≡ None
+  pub word_unknown : (bytes : List ℕ) (token : ℕ) → IsSymbolAt tokens start (word bytes) → named bytes ≡ None
       → Settles tokens named Factor start (Err (record { complaint = NoValue; token = token }))
-  unfolding value_of
+  unfolding worth_of
   word_unknown bytes token at unknown = λ used rest e split written closed.
       let is = word_factor bytes _ rest written (sym at.split ∙ split) in
-      ap (value_of named) (sym is.0) ∙ unknown
+      ap (worth_of named) (sym is.0) ∙ unknown
 
-  pub minus_settles : (inner part : Part) → IsAt tokens start (sign Minus) → Settles tokens named Factor (start + 1) (Ok inner)
-      → fitting (neg_ℤ inner.value) ≡ Some part.value → part.next ≡ inner.next → Settles tokens named Factor start (Ok part)
-  unfolding value_of
+  pub minus_settles : (inner part : Part) → IsSymbolAt tokens start (sign Minus) → Settles tokens named Factor (start + 1) (Ok inner)
+      → in_range (neg_ℤ inner.value) ≡ Some part.value → part.next ≡ inner.next → Settles tokens named Factor start (Ok part)
+  unfolding worth_of
   minus_settles inner part at settles worth next = λ used rest e split written closed.
       let is = minus_factor _ rest written (sym at.split ∙ split) in
       let settled = settles is.inner rest is.expression is.split is.written closed in
-      (ap (value_of named) (sym is.same) ∙ rw settled.0 worth, ap (λ k. drop k (symbols_of tokens)) next ∙ settled.1)
+      (ap (worth_of named) (sym is.same) ∙ rw settled.0 worth, ap (λ k. drop k (symbols_of tokens)) next ∙ settled.1)
 
-  pub minus_overflows : (inner : Part) (token : ℕ) → IsAt tokens start (sign Minus) → Settles tokens named Factor (start + 1) (Ok inner)
-      → fitting (neg_ℤ inner.value) ≡ None → Settles tokens named Factor start (Err (record { complaint = Overflow; token = token }))
-  unfolding value_of
+  pub minus_overflows : (inner : Part) (token : ℕ) → IsSymbolAt tokens start (sign Minus) → Settles tokens named Factor (start + 1) (Ok inner)
+      → in_range (neg_ℤ inner.value) ≡ None → Settles tokens named Factor start (Err (record { complaint = Overflow; token = token }))
+  unfolding worth_of
   minus_overflows inner token at settles none = λ used rest e split written closed.
       let is = minus_factor _ rest written (sym at.split ∙ split) in
       let settled = settles is.inner rest is.expression is.split is.written closed in
-      ap (value_of named) (sym is.same) ∙ rw settled.0 none
+      ap (worth_of named) (sym is.same) ∙ rw settled.0 none
 
-  pub minus_refused : (fault : Fault) → IsAt tokens start (sign Minus) → Settles tokens named Factor (start + 1) (Err fault)
+  pub minus_refused : (fault : Fault) → IsSymbolAt tokens start (sign Minus) → Settles tokens named Factor (start + 1) (Err fault)
       → Settles tokens named Factor start (Err fault)
-  unfolding value_of
+  unfolding worth_of
   minus_refused fault at settles = λ used rest e split written closed.
       let is = minus_factor _ rest written (sym at.split ∙ split) in
-      Explains-whole named fault.complaint is.expression e (λ none. ap (value_of named) (sym is.same) ∙ rw none refl)
+      Explains-whole named fault.complaint is.expression e (λ none. ap (worth_of named) (sym is.same) ∙ rw none refl)
       (settles is.inner rest is.expression is.split is.written closed)
 
   -- nothing goes on behind a closing bracket
   closing_closed : (rest : List Symbol) → IsClosed Sum (closing ∷ rest)
   closing_closed rest = λ o behind begins. cc
 
-  pub bracket_settles : (inner part : Part) → IsAt tokens start opening → Settles tokens named Sum (start + 1) (Ok inner)
-      → IsAt tokens inner.next closing → part.value ≡ inner.value → part.next ≡ inner.next + 1 → Settles tokens named Factor start (Ok part)
+  pub bracket_settles : (inner part : Part) → IsSymbolAt tokens start opening → Settles tokens named Sum (start + 1) (Ok inner)
+      → IsSymbolAt tokens inner.next closing → part.value ≡ inner.value → part.next ≡ inner.next + 1 → Settles tokens named Factor start (Ok part)
   bracket_settles inner part at settles end worth next = λ used rest e split written closed.
       let is = bracket_factor _ rest written (sym at.split ∙ split) in
       let settled = settles is.inner (closing ∷ rest) is.expression is.split is.written (closing_closed rest) in
       let behind : drop (inner.next + 1) (symbols_of tokens) ≡ rest = (cc (sym end.split ∙ settled.1)) in
-      (ap (value_of named) (sym is.same) ∙ settled.0 ∙ ap Some (sym worth), ap (λ k. drop k (symbols_of tokens)) next ∙ behind)
+      (ap (worth_of named) (sym is.same) ∙ settled.0 ∙ ap Some (sym worth), ap (λ k. drop k (symbols_of tokens)) next ∙ behind)
 
-  pub bracket_unclosed : (inner : Part) (token : ℕ) → IsAt tokens start opening → Settles tokens named Sum (start + 1) (Ok inner)
+  pub bracket_unclosed : (inner : Part) (token : ℕ) → IsSymbolAt tokens start opening → Settles tokens named Sum (start + 1) (Ok inner)
       → ((behind : List Symbol) → drop inner.next (symbols_of tokens) ≢ closing ∷ behind)
       → Settles tokens named Factor start (Err (record { complaint = ExpectedClosing; token = token }))
   bracket_unclosed inner token at settles other = λ used rest e split written closed.
@@ -187,15 +187,15 @@ module _ (tokens : List Placed) (named : List ℕ → Option ℤ) (start : ℕ) 
       let settled = settles is.inner (closing ∷ rest) is.expression is.split is.written (closing_closed rest) in
       other rest settled.1
 
-  pub bracket_refused : (fault : Fault) → IsAt tokens start opening → Settles tokens named Sum (start + 1) (Err fault)
+  pub bracket_refused : (fault : Fault) → IsSymbolAt tokens start opening → Settles tokens named Sum (start + 1) (Err fault)
       → Settles tokens named Factor start (Err fault)
   bracket_refused fault at settles = λ used rest e split written closed.
       let is = bracket_factor _ rest written (sym at.split ∙ split) in
-      Explains-whole named fault.complaint is.expression e (λ none. ap (value_of named) (sym is.same) ∙ none)
+      Explains-whole named fault.complaint is.expression e (λ none. ap (worth_of named) (sym is.same) ∙ none)
       (settles is.inner (closing ∷ rest) is.expression is.split is.written (closing_closed rest))
 
   -- no factor begins with another symbol
-  pub other_settles : (s : Symbol) (token : ℕ) → IsAt tokens start s → begins_factor s ≡ false
+  pub other_settles : (s : Symbol) (token : ℕ) → IsSymbolAt tokens start s → begins_factor s ≡ false
       → Settles tokens named Factor start (Err (record { complaint = ExpectedOperand; token = token }))
   other_settles s token at other = λ used rest e split written closed.
       let begins = factor_begins written in
@@ -221,22 +221,22 @@ module _ (tokens : List Placed) (named : List ℕ → Option ℤ) (start : ℕ) 
     pub on : List Symbol
     pub split : drop next (symbols_of tokens) ≡ on ++ rest
     pub goes_on : GoesOn rank operand on e
-    pub worth : value_of named operand ≡ Some x
+    pub worth : worth_of named operand ≡ Some x
 
   -- the operand so far, for each expression that the part may be
   abbrev pub Going : Rank → Part → Type 0
   Going rank part =
-      (used rest : List Symbol) (e : Expression) → drop start (symbols_of tokens) ≡ used ++ rest → Writes rank used e → IsClosed rank rest
+      (used rest : List Symbol) (e : Expression) → drop start (symbols_of tokens) ≡ used ++ rest → Derives rank used e → IsClosed rank rest
       → GoesFrom rank part.next part.value rest e
 
   settled_end : (rank : Rank) (next : ℕ) (x : ℤ) (rest : List Symbol) (e : Expression) → GoesFrom rank next x rest e
       → ((o : Operator) (behind : List Symbol) → drop next (symbols_of tokens) ≡ sign o ∷ behind → rank_of o ≢ rank)
-      → (value_of named e ≡ Some x) × (drop next (symbols_of tokens) ≡ rest)
+      → (worth_of named e ≡ Some x) × (drop next (symbols_of tokens) ≡ rest)
   settled_end rank next x rest e g last = by_goes_on g.on g.operand g.goes_on g.split g.worth
     where
       by_goes_on : (on : List Symbol) (operand : Expression) → GoesOn rank operand on e → drop next (symbols_of tokens) ≡ on ++ rest
-          → value_of named operand ≡ Some x → (value_of named e ≡ Some x) × (drop next (symbols_of tokens) ≡ rest)
-      by_goes_on on operand (ends none same) split worth = (ap (value_of named) (sym same) ∙ worth, split ∙ ap (λ xs. xs ++ rest) none)
+          → worth_of named operand ≡ Some x → (worth_of named e ≡ Some x) × (drop next (symbols_of tokens) ≡ rest)
+      by_goes_on on operand (ends none same) split worth = (ap (worth_of named) (sym same) ∙ worth, split ∙ ap (λ xs. xs ++ rest) none)
       by_goes_on on operand (goes {o = o} is written more begins) split worth =
           absurd (last o _ (split ∙ ap (λ xs. xs ++ rest) begins) is)
 
@@ -255,7 +255,7 @@ module _ (tokens : List Placed) (named : List ℕ → Option ℤ) (start : ℕ) 
       (settles s.first (s.rest ++ rest) s.operand (split ∙ ap (λ xs. xs ++ rest) s.split ∙ append_assoc s.first s.rest rest) s.written (closed_on other rest closed s.on))
 
   -- one more operand
-  pub going_on : (rank : Rank) (o : Operator) (left right part : Part) → rank ≢ Factor → Going rank left → IsAt tokens left.next (sign o) → rank_of o ≡ rank
+  pub going_on : (rank : Rank) (o : Operator) (left right part : Part) → rank ≢ Factor → Going rank left → IsSymbolAt tokens left.next (sign o) → rank_of o ≡ rank
       → Settles tokens named (tighter rank) (left.next + 1) (Ok right) → result_of o left.value right.value ≡ Some part.value → part.next ≡ right.next
       → Going rank part
   going_on rank o left right part other going at is settles worth next = λ used rest e split written closed.
@@ -270,7 +270,7 @@ module _ (tokens : List Placed) (named : List ℕ → Option ℤ) (start : ℕ) 
         worth = value_of-operation named o g.operand n.operand left.value right.value g.worth settled.0 ∙ worth;
       }
 
-  pub right_refused : (rank : Rank) (o : Operator) (left : Part) (fault : Fault) → rank ≢ Factor → Going rank left → IsAt tokens left.next (sign o)
+  pub right_refused : (rank : Rank) (o : Operator) (left : Part) (fault : Fault) → rank ≢ Factor → Going rank left → IsSymbolAt tokens left.next (sign o)
       → rank_of o ≡ rank → Settles tokens named (tighter rank) (left.next + 1) (Err fault) → Settles tokens named rank start (Err fault)
   right_refused rank o left fault other going at is settles = λ used rest e split written closed.
       let g = going used rest e split written closed in
@@ -278,7 +278,7 @@ module _ (tokens : List Placed) (named : List ℕ → Option ℤ) (start : ℕ) 
       Explains-whole named fault.complaint n.operand e (λ none. none_goes_on named n.goes_on (right_none named o g.operand n.operand left.value g.worth none))
       (settles n.right (n.on ++ rest) n.operand n.split n.written (closed_on other rest closed n.goes_on))
 
-  pub operation_refused : (rank : Rank) (o : Operator) (left right : Part) (fault : Fault) → rank ≢ Factor → Going rank left → IsAt tokens left.next (sign o)
+  pub operation_refused : (rank : Rank) (o : Operator) (left right : Part) (fault : Fault) → rank ≢ Factor → Going rank left → IsSymbolAt tokens left.next (sign o)
       → rank_of o ≡ rank → Settles tokens named (tighter rank) (left.next + 1) (Ok right) → result_of o left.value right.value ≡ None
       → fault.complaint ≡ complaint_of o right.value → Settles tokens named rank start (Err fault)
   operation_refused rank o left right fault other going at is settles none complaint = λ used rest e split written closed.

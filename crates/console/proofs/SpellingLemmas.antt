@@ -17,8 +17,8 @@ use Rattle.std.proofs.lemmas.Str.Parse.{parse_signed_digits, parse_signed_plain,
 use Rattle.console.specs.declared.arithmetic.token.Kind.{Kind}
 use Rattle.console.specs.declared.arithmetic.token.Kind.TheVariants.{Blank, Digit, Word}
 use Rattle.console.specs.Grammar.{Symbol, figure, word, sign, opening, closing, equals}
-use Rattle.console.specs.Spelling.{Spells, nothing, blank, mark, digits, letters, is_blank, begins_name, passes, mark_of}
-use Rattle.console.specs.Tokens.{IsReadAt, IsTooLargeAt, LeadsOnlyTo, LeadsTo, symbol_of, symbols_of}
+use Rattle.console.specs.Spelling.{Spells, nothing, blank, mark, digits, letters, is_blank_byte, begins_name, passes, mark_of}
+use Rattle.console.specs.Tokens.{IsReadAt, IsTooLargeAt, SpellsOnlyUpTo, SpellsUpTo, symbol_of, symbols_of}
 use Rattle.console.specs.declared.arithmetic.operator.Operator.TheVariants.{Plus, Minus, Times, Divide, Remainder}
 use Rattle.console.specs.declared.arithmetic.token.Placed.{Placed}
 use Rattle.console.specs.declared.arithmetic.token.Read.{Read}
@@ -28,23 +28,23 @@ use Rattle.console.proofs.ReadingLemmas.{LeadsOnlyTo-joined, only_mark, only_nam
 use denote.Ref.{Bor}
 
 -- a blank, if it is one, and the blanks behind it change nothing
-skips_one : (b : ℕ) (bs : List ℕ) (more : List Symbol) (c : Bool) → is_blank b ≡ c
-    → (Spells (drop (prefix_len is_blank bs) bs) more → Spells bs more)
-    → Spells (drop (cond c (1 + prefix_len is_blank bs) 0) (b ∷ bs)) more → Spells (b ∷ bs) more
+skips_one : (b : ℕ) (bs : List ℕ) (more : List Symbol) (c : Bool) → is_blank_byte b ≡ c
+    → (Spells (drop (prefix_len is_blank_byte bs) bs) more → Spells bs more)
+    → Spells (drop (cond c (1 + prefix_len is_blank_byte bs) 0) (b ∷ bs)) more → Spells (b ∷ bs) more
 skips_one b bs more true is behind here =
-    let size : 1 + prefix_len is_blank bs ≡ suc (prefix_len is_blank bs) = omega arith in
+    let size : 1 + prefix_len is_blank_byte bs ≡ suc (prefix_len is_blank_byte bs) = omega arith in
     blank is (behind (subst (λ n. Spells (drop n (b ∷ bs)) more) size here)) refl
 skips_one b bs more false is behind here = here
 
 -- blanks at the front change nothing
-skips : (xs : List ℕ) (more : List Symbol) → Spells (drop (prefix_len is_blank xs) xs) more → Spells xs more
+skips : (xs : List ℕ) (more : List Symbol) → Spells (drop (prefix_len is_blank_byte xs) xs) more → Spells xs more
 skips [] more spelled = spelled
-skips (b ∷ bs) more spelled = skips_one b bs more (is_blank b) refl (skips bs more) spelled
+skips (b ∷ bs) more spelled = skips_one b bs more (is_blank_byte b) refl (skips bs more) spelled
 
 -- what blanks lead to
-pub leads_past_blanks : (text : List ℕ) (start end : ℕ) → end ≡ start + prefix_len (passes Blank) (drop start text) → LeadsTo text start [] end
+pub leads_past_blanks : (text : List ℕ) (start end : ℕ) → end ≡ start + prefix_len (passes Blank) (drop start text) → SpellsUpTo text start [] end
 leads_past_blanks text start end is = λ more spelled.
-    skips (drop start text) more (subst (λ xs. Spells xs more) (ap (λ k. drop k text) is ∙ sym (drop-drop (prefix_len is_blank (drop start text)) start text)) spelled)
+    skips (drop start text) more (subst (λ xs. Spells xs more) (ap (λ k. drop k text) is ∙ sym (drop-drop (prefix_len is_blank_byte (drop start text)) start text)) spelled)
 
 -- the bytes of a kind are ASCII
 pub passes-below : (kind : Kind) (b : ℕ) → passes kind b ≡ true → b < 128
@@ -96,7 +96,7 @@ name_read text start end read bytes within begins is cut boundary made =
     let more_than_none = prefix_len-le-length (passes Word) (drop start text) in
     subst (IsReadAt text start) (sym made) (record {
       leads = λ more spelled. rw same (letters refl first begins spelled (run_split Word text start end is));
-      only = subst (λ run. LeadsOnlyTo text start (word run ∷ []) end) (sym same) (only_name text start within end begins is);
+      only = subst (λ run. SpellsOnlyUpTo text start (word run ∷ []) end) (sym same) (only_name text start within end begins is);
       boundary = boundary;
       forward = omega (arith, ap length first, length-prefix_len (passes Word) (drop start text));
     })
@@ -134,7 +134,7 @@ number_read text start end read bytes x within begins is cut boundary worth made
     let some : take_while (passes Digit) (drop start text) ≢ [] = λ none. (cc (first, none)) in
     subst (IsReadAt text start) (sym made) (record {
       leads = λ more spelled. rw worth_run (digits refl some spelled (run_split Digit text start end is));
-      only = subst (λ v. LeadsOnlyTo text start (figure v ∷ []) end) (sym worth_run) (only_number text start within end begins is);
+      only = subst (λ v. SpellsOnlyUpTo text start (figure v ∷ []) end) (sym worth_run) (only_number text start within end begins is);
       boundary = boundary;
       forward = omega (arith, ap length first, length-prefix_len (passes Digit) (drop start text));
     })
@@ -168,7 +168,7 @@ unparsed_run text start end bytes r e within begins is cut parses err =
     let plain = OkIff-at_err _ _ _ _ (parse_signed_digits (numerals_by_value (AllDigits 10) tells_digits) w64 bytes r parses all_digits) err in
     let large : 2 ^ 63 ≤ digits_value 10 bytes = not_less (λ less. plain (some, less)) in
     too_large_here text start end (pos (digits_value 10 bytes))
-    (subst (λ run. LeadsOnlyTo text start (figure (pos (digits_value 10 run)) ∷ []) end) (sym same) (only_number text start within end begins is))
+    (subst (λ run. SpellsOnlyUpTo text start (figure (pos (digits_value 10 run)) ∷ []) end) (sym same) (only_number text start within end begins is))
     (fitting-large (digits_value 10 bytes) large)
 
 -- the byte of a symbol is ASCII
@@ -195,21 +195,21 @@ mark_read text start b (Some read) within is utf8 fact =
     let below = mark_of-below (symbol_of read.token) b fact.0 in
     record {
       leads = λ more spelled. mark fact.0 spelled split;
-      only = subst (LeadsOnlyTo text start (symbol_of read.token ∷ [])) (sym fact.1) (only_mark text start within (symbol_of read.token) (fact.0 ∙ ap Some (sym is)));
+      only = subst (SpellsOnlyUpTo text start (symbol_of read.token ∷ [])) (sym fact.1) (only_mark text start within (symbol_of read.token) (fact.0 ∙ ap Some (sym is)));
       boundary = subst (IsCharBoundary text) (sym fact.1) (IsCharBoundary-after_ascii text start utf8 within (omega arith));
       forward = omega arith;
     }
 
 -- what leads on to a place, and on from there
-pub LeadsTo-joined : (text : List ℕ) (start middle end : ℕ) (xs ys : List Symbol) → LeadsTo text start xs middle → LeadsTo text middle ys end
-    → LeadsTo text start (xs ++ ys) end
+pub LeadsTo-joined : (text : List ℕ) (start middle end : ℕ) (xs ys : List Symbol) → SpellsUpTo text start xs middle → SpellsUpTo text middle ys end
+    → SpellsUpTo text start (xs ++ ys) end
 LeadsTo-joined text start middle end xs ys one other = λ more spelled.
     subst (Spells (drop start text)) (sym (append_assoc xs ys more)) (one (ys ++ more) (other more spelled))
 
 -- what the tokens so far lead to, with one more token and the blanks behind it
 pub LeadsTo-push : (text : List ℕ) (middle : ℕ) (tokens : List Placed) (t : Placed) (read : Read) (end : ℕ)
-    → LeadsTo text 0 (symbols_of tokens) middle → IsReadAt text middle read → t.token ≡ read.token
-    → LeadsTo text read.end [] end → LeadsTo text 0 (symbols_of (tokens ++ t ∷ [])) end
+    → SpellsUpTo text 0 (symbols_of tokens) middle → IsReadAt text middle read → t.token ≡ read.token
+    → SpellsUpTo text read.end [] end → SpellsUpTo text 0 (symbols_of (tokens ++ t ∷ [])) end
 LeadsTo-push text middle tokens t read end before reads same blanks =
     let pushed : symbols_of (tokens ++ t ∷ []) ≡ symbols_of tokens ++ symbol_of read.token ∷ [] =
     map-append (λ t. symbol_of t.token) tokens (t ∷ []) ∙ ap (λ x. symbols_of tokens ++ symbol_of x ∷ []) same in
@@ -218,18 +218,18 @@ LeadsTo-push text middle tokens t read end before reads same blanks =
 
 -- the same, of all that is spelled
 pub LeadsOnlyTo-push : (text : List ℕ) (middle : ℕ) (tokens : List Placed) (t : Placed) (read : Read) (end : ℕ)
-    → LeadsOnlyTo text 0 (symbols_of tokens) middle → IsReadAt text middle read → t.token ≡ read.token
-    → LeadsOnlyTo text read.end [] end → LeadsOnlyTo text 0 (symbols_of (tokens ++ t ∷ [])) end
+    → SpellsOnlyUpTo text 0 (symbols_of tokens) middle → IsReadAt text middle read → t.token ≡ read.token
+    → SpellsOnlyUpTo text read.end [] end → SpellsOnlyUpTo text 0 (symbols_of (tokens ++ t ∷ [])) end
 LeadsOnlyTo-push text middle tokens t read end before reads same blanks =
     let s = symbol_of read.token in
     let pushed : symbols_of (tokens ++ t ∷ []) ≡ symbols_of tokens ++ s ∷ [] =
     map-append (λ t. symbol_of t.token) tokens (t ∷ []) ∙ ap (λ x. symbols_of tokens ++ symbol_of x ∷ []) same in
-    subst (λ xs. LeadsOnlyTo text 0 xs end) (append-nil (symbols_of tokens ++ s ∷ []) ∙ sym pushed)
+    subst (λ xs. SpellsOnlyUpTo text 0 xs end) (append-nil (symbols_of tokens ++ s ∷ []) ∙ sym pushed)
     (LeadsOnlyTo-joined text 0 read.end end (symbols_of tokens ++ s ∷ []) []
     (LeadsOnlyTo-joined text 0 middle read.end (symbols_of tokens) (s ∷ []) before reads.only) blanks)
 
 -- tokens that lead to the end of a text are spelled by it
-pub spelled_whole : (text : List ℕ) (tokens : List Placed) (end : ℕ) → LeadsTo text 0 (symbols_of tokens) end → end ≡ length text
+pub spelled_whole : (text : List ℕ) (tokens : List Placed) (end : ℕ) → SpellsUpTo text 0 (symbols_of tokens) end → end ≡ length text
     → Spells text (symbols_of tokens)
 spelled_whole text tokens end leads is =
     subst (Spells text) (append-nil (symbols_of tokens)) (leads [] (nothing (ap (λ k. drop k text) is ∙ drop-length text)))

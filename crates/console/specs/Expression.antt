@@ -14,9 +14,9 @@ pub data Expression : Type 0 where
   operation : Operator → Expression → Expression → Expression
 
 -- a number where it fits 64 bits
-abbrev pub fitting : ℤ → Option ℤ
-fitting (pos n) = if nat_lt n (2 ^ 63) then Some (pos n) else None
-fitting (negsuc n) = if nat_lt n (2 ^ 63) then Some (negsuc n) else None
+abbrev pub in_range : ℤ → Option ℤ
+in_range (pos n) = if nat_lt n (2 ^ 63) then Some (pos n) else None
+in_range (negsuc n) = if nat_lt n (2 ^ 63) then Some (negsuc n) else None
 
 -- a number where another one is not zero
 abbrev pub unless_zero : ℤ → Option ℤ → Option ℤ
@@ -26,17 +26,17 @@ unless_zero (negsuc n) quotient = quotient
 
 -- what an operator makes of two numbers: a quotient is truncated, and zero divides nothing
 unfoldable pub result_of : Operator → ℤ → ℤ → Option ℤ
-result_of Plus x y = fitting (x +ℤ y)
-result_of Minus x y = fitting (x -ℤ y)
-result_of Times x y = fitting (x *ℤ y)
-result_of Divide x y = unless_zero y (fitting (int_div x y))
-result_of Remainder x y = unless_zero y (fitting (int_rem x y))
+result_of Plus x y = in_range (x +ℤ y)
+result_of Minus x y = in_range (x -ℤ y)
+result_of Times x y = in_range (x *ℤ y)
+result_of Divide x y = unless_zero y (in_range (int_div x y))
+result_of Remainder x y = unless_zero y (in_range (int_rem x y))
 
 -- what an expression is worth under the values of names; nothing where a part of it has no value
-unfoldable pub value_of : (List ℕ → Option ℤ) → Expression → Option ℤ
-value_of named (number x) = fitting x
-value_of named (name word) = named word
-value_of named (negation e) = option_and_then (λ x. fitting (neg_ℤ x)) (value_of named e)
-value_of named (operation o left right) =
-    option_and_then (λ x. option_and_then (λ y. result_of o x y) (value_of named right))
-    (value_of named left)
+unfoldable pub worth_of : (List ℕ → Option ℤ) → Expression → Option ℤ
+worth_of named (number x) = in_range x
+worth_of named (name word) = named word
+worth_of named (negation e) = option_and_then (λ x. in_range (neg_ℤ x)) (worth_of named e)
+worth_of named (operation o left right) =
+    option_and_then (λ x. option_and_then (λ y. result_of o x y) (worth_of named right))
+    (worth_of named left)

@@ -42,30 +42,30 @@ IsClosed rank symbols = (o : Operator) (behind : List Symbol) → symbols ≡ si
     → looseness rank < looseness (rank_of o)
 
 -- symbols write an expression of a rank
-pub data Writes : Rank → List Symbol → Expression → Type 0 where
+pub data Derives : Rank → List Symbol → Expression → Type 0 where
   -- `12`
   by_figure : {symbols : List Symbol} {x : ℤ}
-      → symbols ≡ figure x ∷ [] → Writes Factor symbols (number x)
+      → symbols ≡ figure x ∷ [] → Derives Factor symbols (number x)
   -- `tax`
   by_word : {symbols : List Symbol} {bytes : List ℕ}
-      → symbols ≡ word bytes ∷ [] → Writes Factor symbols (name bytes)
+      → symbols ≡ word bytes ∷ [] → Derives Factor symbols (name bytes)
   -- `- factor`
   by_negation : {symbols inner : List Symbol} {e : Expression}
-      → Writes Factor inner e → symbols ≡ sign Minus ∷ inner → Writes Factor symbols (negation e)
+      → Derives Factor inner e → symbols ≡ sign Minus ∷ inner → Derives Factor symbols (negation e)
   -- `( sum )`
   by_brackets : {symbols inner : List Symbol} {e : Expression}
-      → Writes Sum inner e → symbols ≡ opening ∷ inner ++ closing ∷ [] → Writes Factor symbols e
+      → Derives Sum inner e → symbols ≡ opening ∷ inner ++ closing ∷ [] → Derives Factor symbols e
   -- a factor alone is a product
   by_factor : {symbols : List Symbol} {e : Expression}
-      → Writes Factor symbols e → Writes Product symbols e
+      → Derives Factor symbols e → Derives Product symbols e
   -- `product * factor`
   by_product : {symbols left right : List Symbol} {o : Operator} {a b : Expression}
-      → Writes Product left a → Writes Factor right b → rank_of o ≡ Product
-      → symbols ≡ left ++ sign o ∷ right → Writes Product symbols (operation o a b)
+      → Derives Product left a → Derives Factor right b → rank_of o ≡ Product
+      → symbols ≡ left ++ sign o ∷ right → Derives Product symbols (operation o a b)
   -- a product alone is a sum
   by_alone : {symbols : List Symbol} {e : Expression}
-      → Writes Product symbols e → Writes Sum symbols e
+      → Derives Product symbols e → Derives Sum symbols e
   -- `sum + product`
   by_sum : {symbols left right : List Symbol} {o : Operator} {a b : Expression}
-      → Writes Sum left a → Writes Product right b → rank_of o ≡ Sum
-      → symbols ≡ left ++ sign o ∷ right → Writes Sum symbols (operation o a b)
+      → Derives Sum left a → Derives Product right b → rank_of o ≡ Sum
+      → symbols ≡ left ++ sign o ∷ right → Derives Sum symbols (operation o a b)

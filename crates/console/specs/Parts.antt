@@ -8,13 +8,13 @@ use Rattle.console.specs.declared.arithmetic.operator.Rank.TheVariants.{Sum}
 use Rattle.console.specs.declared.arithmetic.parts.Fault.{Fault}
 use Rattle.console.specs.declared.arithmetic.parts.Part.{Part}
 use Rattle.console.specs.declared.arithmetic.token.Placed.{Placed}
-use Rattle.console.specs.Expression.{Expression, value_of}
-use Rattle.console.specs.Grammar.{Symbol, equals, sign, word, Writes, IsClosed, rank_of}
+use Rattle.console.specs.Expression.{Expression, worth_of}
+use Rattle.console.specs.Grammar.{Symbol, equals, sign, word, Derives, IsClosed, rank_of}
 use Rattle.console.specs.Refusals.{Explains}
 use Rattle.console.specs.Tokens.{symbols_of}
 
 -- a symbol is at a place of tokens
-pub record IsAt (tokens : List Placed) (place : ℕ) (symbol : Symbol) : Type 0 where
+pub record IsSymbolAt (tokens : List Placed) (place : ℕ) (symbol : Symbol) : Type 0 where
   pub within : place < length tokens
   pub split : drop place (symbols_of tokens) ≡ symbol ∷ drop (place + 1) (symbols_of tokens)
 
@@ -31,8 +31,8 @@ pub record IsPart
   pub used : List Symbol
   pub expression : Expression
   pub split : drop start (symbols_of tokens) ≡ used ++ drop part.next (symbols_of tokens)
-  pub written : Writes rank used expression
-  pub worth : value_of named expression ≡ Some part.value
+  pub written : Derives rank used expression
+  pub worth : worth_of named expression ≡ Some part.value
   pub forward : start < part.next
   pub within : part.next ≤ length tokens
 
@@ -40,24 +40,24 @@ pub record IsPart
 pub record IsWorth
     (tokens : List Placed) (named : List ℕ → Option ℤ) (start : ℕ) (x : ℤ) : Type 0 where
   pub expression : Expression
-  pub written : Writes Sum (drop start (symbols_of tokens)) expression
-  pub worth : value_of named expression ≡ Some x
+  pub written : Derives Sum (drop start (symbols_of tokens)) expression
+  pub worth : worth_of named expression ≡ Some x
 
 -- the result for each expression of a rank that the tokens from a place on begin with and do not
 -- go on with: its value and the place after it, or a complaint about it
 abbrev pub Settles : List Placed → (List ℕ → Option ℤ) → Rank → ℕ → Result Part Fault → Type 0
 Settles tokens named rank start result =
     (used rest : List Symbol) (e : Expression) → drop start (symbols_of tokens) ≡ used ++ rest
-    → Writes rank used e → IsClosed rank rest
+    → Derives rank used e → IsClosed rank rest
     → MatchResult result
-    (λ p. (value_of named e ≡ Some p.value) × (drop p.next (symbols_of tokens) ≡ rest))
+    (λ p. (worth_of named e ≡ Some p.value) × (drop p.next (symbols_of tokens) ≡ rest))
     (λ f. Explains named f.complaint e)
 
 -- the result for each expression that the tokens from a place on write: its value, or a complaint
 abbrev pub SettlesAll : List Placed → (List ℕ → Option ℤ) → ℕ → Result ℤ Fault → Type 0
 SettlesAll tokens named start result =
-    (e : Expression) → Writes Sum (drop start (symbols_of tokens)) e
-    → MatchResult result (λ x. value_of named e ≡ Some x) (λ f. Explains named f.complaint e)
+    (e : Expression) → Derives Sum (drop start (symbols_of tokens)) e
+    → MatchResult result (λ x. worth_of named e ≡ Some x) (λ f. Explains named f.complaint e)
 
 -- no name and `=` are in front of tokens
 abbrev pub AssignsNoName : List Placed → Type 0
@@ -67,5 +67,5 @@ AssignsNoName tokens =
 -- the same as `SettlesAll`, with a place in the text
 abbrev pub SettlesLine : List Placed → (List ℕ → Option ℤ) → ℕ → Result ℤ Refusal → Type 0
 SettlesLine tokens named start result =
-    (e : Expression) → Writes Sum (drop start (symbols_of tokens)) e
-    → MatchResult result (λ x. value_of named e ≡ Some x) (λ r. Explains named r.complaint e)
+    (e : Expression) → Derives Sum (drop start (symbols_of tokens)) e
+    → MatchResult result (λ x. worth_of named e ≡ Some x) (λ r. Explains named r.complaint e)

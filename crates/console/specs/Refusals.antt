@@ -11,7 +11,7 @@ use Rattle.console.specs.declared.arithmetic.complaint.Complaint.TheVariants.{Me
 use Rattle.console.specs.declared.arithmetic.operator.Operator.{Operator}
 use Rattle.console.specs.declared.arithmetic.operator.Operator.TheVariants.{Plus, Minus, Times}
 use Rattle.console.specs.declared.arithmetic.operator.Operator.TheVariants.{Divide, Remainder}
-use Rattle.console.specs.Expression.{Expression, value_of}
+use Rattle.console.specs.Expression.{Expression, worth_of}
 
 -- the complaint on a number that zero divides, and else on one that is out of range
 abbrev pub over_zero : ℤ → Complaint
@@ -33,9 +33,9 @@ abbrev pub Explains : (List ℕ → Option ℤ) → Complaint → Expression →
 Explains named ExpectedOperand e = ⊥
 Explains named ExpectedOperator e = ⊥
 Explains named ExpectedClosing e = ⊥
-Explains named TooLarge e = value_of named e ≡ None
-Explains named NoValue e = value_of named e ≡ None
-Explains named DivisionByZero e = value_of named e ≡ None
-Explains named Overflow e = value_of named e ≡ None
+Explains named TooLarge e = worth_of named e ≡ None
+Explains named NoValue e = worth_of named e ≡ None
+Explains named DivisionByZero e = worth_of named e ≡ None
+Explains named Overflow e = worth_of named e ≡ None
 Explains named TooDeep e = Unit {0}
 Explains named Memory e = Unit {0}

@@ -11,12 +11,12 @@ use Rattle.console.specs.declared.arithmetic.token.Kind.TheVariants.{Blank, Digi
 use Rattle.console.specs.Grammar.{Symbol, figure, word, sign, opening, closing, equals}
 
 -- a space, a tab or a newline
-abbrev pub is_blank : ℕ → Bool
-is_blank b = b == 32 || b == 9 || b == 10
+abbrev pub is_blank_byte : ℕ → Bool
+is_blank_byte b = b == 32 || b == 9 || b == 10
 
 -- a text of blanks
 abbrev pub IsBlank : List ℕ → Type 0
-IsBlank text = All (λ b. IsTrue (is_blank b)) text
+IsBlank text = All (λ b. IsTrue (is_blank_byte b)) text
 
 -- a byte that a name begins with: a letter or `_`
 abbrev pub begins_name : ℕ → Bool
@@ -28,7 +28,7 @@ goes_on_name b = begins_name b || is_ascii_digit b
 
 -- whether a byte is of a kind
 abbrev pub passes : Kind → ℕ → Bool
-passes Blank b = is_blank b
+passes Blank b = is_blank_byte b
 passes Digit b = is_ascii_digit b
 passes Word b = goes_on_name b
 
@@ -53,7 +53,7 @@ mark_of equals = Some 61
 pub data Spells : List ℕ → List Symbol → Type 0 where
   nothing : {text : List ℕ} → text ≡ [] → Spells text []
   blank : {text rest : List ℕ} {symbols : List Symbol} {b : ℕ}
-      → is_blank b ≡ true → Spells rest symbols → text ≡ b ∷ rest → Spells text symbols
+      → is_blank_byte b ≡ true → Spells rest symbols → text ≡ b ∷ rest → Spells text symbols
   mark : {text rest : List ℕ} {symbols : List Symbol} {s : Symbol} {b : ℕ}
       → mark_of s ≡ Some b → Spells rest symbols → text ≡ b ∷ rest → Spells text (s ∷ symbols)
   digits : {text rest : List ℕ} {symbols : List Symbol} {run : List ℕ}

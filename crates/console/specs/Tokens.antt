@@ -9,9 +9,9 @@ use Rattle.console.specs.declared.arithmetic.token.Token.TheVariants.{Opening, C
 use Rattle.console.specs.declared.arithmetic.token.Placed.{Placed}
 use Rattle.console.specs.declared.arithmetic.token.Read.{Read}
 use Rattle.console.specs.declared.arithmetic.token.Scanned.{Scanned}
-use Rattle.console.specs.Expression.{fitting}
+use Rattle.console.specs.Expression.{in_range}
 use Rattle.console.specs.Grammar.{Symbol, figure, word, sign, opening, closing, equals}
-use Rattle.console.specs.Spelling.{Spells, is_blank}
+use Rattle.console.specs.Spelling.{Spells, is_blank_byte}
 
 -- the symbol that a token stands for
 abbrev pub symbol_of : Token → Symbol
@@ -27,28 +27,28 @@ abbrev pub symbols_of : List Placed → List Symbol
 symbols_of tokens = map (λ t. symbol_of t.token) tokens
 
 -- what is spelled from one place of a text is, after these symbols, spelled from an earlier place
-abbrev pub LeadsTo : List ℕ → ℕ → List Symbol → ℕ → Type 0
-LeadsTo text start symbols end =
+abbrev pub SpellsUpTo : List ℕ → ℕ → List Symbol → ℕ → Type 0
+SpellsUpTo text start symbols end =
     (more : List Symbol) → Spells (drop end text) more → Spells (drop start text) (symbols ++ more)
 
 -- whatever is spelled from one place of a text are these symbols and what is spelled from another
-abbrev pub LeadsOnlyTo : List ℕ → ℕ → List Symbol → ℕ → Type 0
-LeadsOnlyTo text start symbols end =
+abbrev pub SpellsOnlyUpTo : List ℕ → ℕ → List Symbol → ℕ → Type 0
+SpellsOnlyUpTo text start symbols end =
     (all : List Symbol) → Spells (drop start text) all
     → (more : List Symbol) × (all ≡ symbols ++ more) × Spells (drop end text) more
 
 -- a number of a line fits 64 bits
-abbrev pub HasRoom : Symbol → Type 0
-HasRoom (figure x) = fitting x ≢ None
-HasRoom (word bytes) = Unit {0}
-HasRoom (sign o) = Unit {0}
-HasRoom opening = Unit {0}
-HasRoom closing = Unit {0}
-HasRoom equals = Unit {0}
+abbrev pub IsInRange : Symbol → Type 0
+IsInRange (figure x) = in_range x ≢ None
+IsInRange (word bytes) = Unit {0}
+IsInRange (sign o) = Unit {0}
+IsInRange opening = Unit {0}
+IsInRange closing = Unit {0}
+IsInRange equals = Unit {0}
 
 -- whatever is spelled from a place of a text has a number that does not fit
 abbrev pub IsTooLargeAt : List ℕ → ℕ → Type 0
-IsTooLargeAt text start = (all : List Symbol) → Spells (drop start text) all → All HasRoom all → ⊥
+IsTooLargeAt text start = (all : List Symbol) → Spells (drop start text) all → All IsInRange all → ⊥
 
 -- nothing is spelled from a place of a text, but at its end
 abbrev pub EndsAt : List ℕ → ℕ → Type 0
@@ -57,12 +57,12 @@ EndsAt text start =
 
 -- no blank is at a place of a text
 abbrev pub IsUnblankAt : List ℕ → ℕ → Type 0
-IsUnblankAt text place = place < length text → is_blank (slice_index text place) ≡ false
+IsUnblankAt text place = place < length text → is_blank_byte (slice_index text place) ≡ false
 
 -- a token is spelled from a place on, up to its end
 pub record IsReadAt (text : List ℕ) (start : ℕ) (read : Read) : Type 0 where
-  pub leads : LeadsTo text start (symbol_of read.token ∷ []) read.end
-  pub only : LeadsOnlyTo text start (symbol_of read.token ∷ []) read.end
+  pub leads : SpellsUpTo text start (symbol_of read.token ∷ []) read.end
+  pub only : SpellsOnlyUpTo text start (symbol_of read.token ∷ []) read.end
   pub boundary : IsCharBoundary text read.end
   pub forward : start < read.end
 

@@ -4,7 +4,7 @@ ghost use Rattle.std.specs.Prelude.{IfErr, IfNone, IfOk, IfSome, IsCharBoundary,
 ghost use Rattle.console.specs.Grammar.{equals, word};
 ghost use Rattle.console.specs.Line.{HasValue, IsExplained, IsOnlyValue};
 ghost use Rattle.console.specs.Names.{AreKept, value_in};
-ghost use Rattle.console.specs.Parts.{AssignsNoName, IsAt, IsWorth, SettlesLine};
+ghost use Rattle.console.specs.Parts.{AssignsNoName, IsSymbolAt, IsWorth, SettlesLine};
 ghost use Rattle.console.specs.Spelling.{IsBlank};
 ghost use Rattle.console.specs.Tokens.{IsScanOf};
 
@@ -54,7 +54,7 @@ pub fn evaluate(alloc: Global, text: &str, names: &mut Names) -> Result<Option<i
 // Returns the name that a line gives a value.
 fn assigned_name<'a>(tokens: &[Placed<'a>]) -> Option<&'a str>
     ensures some { IfSome result
-        (λ name. IsAt tokens.now 0 (word name.now) × IsAt tokens.now 1 equals) }
+        (λ name. IsSymbolAt tokens.now 0 (word name.now) × IsSymbolAt tokens.now 1 equals) }
     ensures none { IfNone result (AssignsNoName tokens.now) }
 {
     match token_at(tokens, 0) {

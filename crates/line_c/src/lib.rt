@@ -2,9 +2,9 @@
 #![tactic(auto)]
 
 ghost use Rattle.std.specs.Prelude.{◌≡◌, [], None, Some, IfNone, MatchOption, if◌then◌else◌};
-ghost use Rattle.line_host.specs.Copied.{CopiesIfAny, Takes, TakesOutput};
-ghost use Rattle.line_host.specs.Helped.{answers, SetsWords};
-ghost use Rattle.line_host.specs.Hosted.{Abandons, AddsLine, BeginsLine, BindsKeys, Finishes, LoadsHistory, ResizesTo, SavesHistory, TakesTurns, TellsCursor, line_of};
+ghost use Rattle.line_host.specs.Copied.{CopiesIfAny, TakesBytes, TakesOutput};
+ghost use Rattle.line_host.specs.Helped.{answers_by, SetsWords};
+ghost use Rattle.line_host.specs.Hosted.{Abandons, AddsLine, BeginsLine, BindsKeys, Finishes, LoadsHistory, ResizesSession, SavesHistory, ReadsItems, TellsCursor, line_of};
 ghost use Rattle.line_host.specs.Settings.{is_yes};
 ghost use Rattle.line_host.specs.Status.{code_of};
 ghost use Rattle.line_term.specs.Decoder.{finished, flushed, is_waiting, read};
@@ -74,7 +74,7 @@ pub extern "C" fn line_c_free(handle: &mut Handle, alloc: Global) -> u32
 #[unsafe(no_mangle)]
 pub extern "C" fn line_c_begin(handle: &mut Handle, alloc: Global, prompt: &[u8]) -> u32
     ensures { OnSession handle.old handle.new result
-        (BeginsLine answers prompt.now prompt.now [] []) }
+        (BeginsLine answers_by prompt.now prompt.now [] []) }
 {
     on_session!(
         handle,
@@ -94,7 +94,7 @@ pub extern "C" fn line_c_begin_with(
     right: &[u8],
 ) -> u32
     ensures { OnSession handle.old handle.new result
-        (BeginsLine answers prompt.now styled.now left.now right.now) }
+        (BeginsLine answers_by prompt.now styled.now left.now right.now) }
 {
     on_session!(
         handle,
@@ -107,7 +107,7 @@ pub extern "C" fn line_c_begin_with(
 #[unsafe(no_mangle)]
 pub extern "C" fn line_c_feed(handle: &mut Handle, alloc: Global, bytes: &[u8]) -> u32
     ensures { OnSession handle.old handle.new result
-        (λ old. TakesTurns answers (read old.editor.decoder bytes.now) old) }
+        (λ old. ReadsItems answers_by (read old.editor.decoder bytes.now) old) }
 {
     on_session!(handle, alloc, |session| session.feed(bytes))
 }
@@ -116,7 +116,7 @@ pub extern "C" fn line_c_feed(handle: &mut Handle, alloc: Global, bytes: &[u8]) 
 #[unsafe(no_mangle)]
 pub extern "C" fn line_c_flush(handle: &mut Handle, alloc: Global) -> u32
     ensures { OnSession handle.old handle.new result
-        (λ old. TakesTurns answers (flushed old.editor.decoder) old) }
+        (λ old. ReadsItems answers_by (flushed old.editor.decoder) old) }
 {
     on_session!(handle, alloc, |session| session.flush())
 }
@@ -125,7 +125,7 @@ pub extern "C" fn line_c_flush(handle: &mut Handle, alloc: Global) -> u32
 #[unsafe(no_mangle)]
 pub extern "C" fn line_c_finish(handle: &mut Handle, alloc: Global) -> u32
     ensures { OnSession handle.old handle.new result
-        (λ old. Finishes answers (finished old.editor.decoder) old) }
+        (λ old. Finishes answers_by (finished old.editor.decoder) old) }
 {
     on_session!(handle, alloc, |session| session.finish())
 }
@@ -142,7 +142,7 @@ pub extern "C" fn line_c_abandon(handle: &mut Handle, alloc: Global) -> u32
 #[unsafe(no_mangle)]
 pub extern "C" fn line_c_resize(handle: &mut Handle, alloc: Global, columns: u16, rows: u16) -> u32
     ensures { OnSession handle.old handle.new result
-        (ResizesTo answers columns rows) }
+        (ResizesSession answers_by columns rows) }
 {
     on_session!(handle, alloc, |session| session.resize(columns, rows))
 }
@@ -247,7 +247,7 @@ pub extern "C" fn line_c_saved(
 ) -> u32
     ensures session { OnSession handle.old handle.new result (λ old new came.
         (came ≡ Status.Done) × (new ≡ record old { saved = new.saved })
-        × Takes old.saved new.saved buffer.old buffer.new taken.new) }
+        × TakesBytes old.saved new.saved buffer.old buffer.new taken.new) }
     ensures none { IfNone handle.old.session
         ((buffer.new ≡ buffer.old) × (taken.new ≡ taken.old)) }
 {

@@ -19,7 +19,7 @@ use Rattle.line_keys.specs.Display.{Display, IsRight, ShowsText, columns_back, c
 use Rattle.line_keys.specs.Draft.{Draft, hint_shown, hinted, start_text}
 use Rattle.line_keys.specs.Drawing.{ChangedPlainly, Does, Drew, DrewLine, DrewPart, KeepsDraftOnErr, ShowsEnd, Undrawn, asked_by, change_drawn, drawn_in_full, drawn_plainly}
 use Rattle.line_keys.specs.Frame.{FailsByParty, Frame}
-use Rattle.line_keys.specs.Plainly.{KilledPlainly, TypedPlainly, gives_end, is_bare, leaves_bare, takes_char}
+use Rattle.line_keys.specs.Plainly.{KilledPlainly, TypedPlainly, gives_end, is_bare_line, leaves_bare, takes_char}
 use Rattle.line_keys.specs.ShownLine.{HasRightLayout, KeepsDrawn}
 use Rattle.line_keys.specs.declared.editor_state.EditorState.{Ghosts}
 use Rattle.line_parts.specs.Asks.{for_hint}
@@ -140,7 +140,7 @@ not_true true is = absurd (cc)
 
 pub takes : (display : Display) (draft : Draft) (c : ℕ) → takes_char display draft c ≡ true → Takes display draft c
 takes display draft c is =
-    let first = and_parts (is_printable c && is_at_end draft.line && nat_lt (display.layout.cursor.col + 1) display.surface.columns) (is_bare display draft) is in
+    let first = and_parts (is_printable c && is_at_end draft.line && nat_lt (display.layout.cursor.col + 1) display.surface.columns) (is_bare_line display draft) is in
     let second = and_parts (is_printable c && is_at_end draft.line) (nat_lt (display.layout.cursor.col + 1) display.surface.columns) first.0 in
     let third = and_parts (is_printable c) (is_at_end draft.line) second.0 in
     let bare = and_parts (list_all is_plain draft.line.text && not (is_some draft.hint)) (not display.layout.has_info) first.1 in
@@ -216,7 +216,7 @@ gives display draft from is =
     let cursor = nat_le (draft.line.cursor - from) display.layout.cursor.col in
     let end = nat_le (length draft.line.text - from) display.layout.end.col in
     let print = list_all is_printable (drop from draft.line.text) in
-    let first = and_parts (print && row && cursor && end) (is_bare display draft) is in
+    let first = and_parts (print && row && cursor && end) (is_bare_line display draft) is in
     let second = and_parts (print && row && cursor) end first.0 in
     let third = and_parts (print && row) cursor second.0 in
     let fourth = and_parts print row third.0 in

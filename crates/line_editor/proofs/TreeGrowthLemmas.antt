@@ -2,7 +2,7 @@
 use Rattle.std.proofs.Common.{arith, ◌≡◌, ◌⊎◌, inl, inr, ◌<◌, ◌++◌, ◌∙◌, ◌==◌, ap, sym, refl, subst, ℕ, zero, suc, List, [], ◌∷◌, get_or, set, length, map, false, Option, Some, None, append_assoc, append-nil, length-append, length-set}
 use Rattle.std.proofs.lemmas.List.{get_or_push, get_or_append_left, set_at}
 use Rattle.line_keys.specs.declared.keys.KeyEvent.{KeyEvent}
-use Rattle.line_editor.specs.KeyTree.{EachLeads, IsChild, IsKeyTree, IsTree, Shape, branch, child_by, held, parent_of, path_behind, paths}
+use Rattle.line_editor.specs.KeyTree.{EachLeads, IsChild, IsKeyTree, IsTree, Shape, branch, child_by, held, parent_of, path_of_child, paths}
 use Rattle.line_editor.proofs.TreeLemmas.{apart-from, below-other, children-here, children-other, grown, leaf-past, length-paths, same-or-not, tree-grown, path-new, paths-grown}
 use Rattle.line_editor.proofs.TreeHeldLemmas.{held-append}
 use Rattle.line_editor.proofs.TreePathLemmas.{path}
@@ -65,10 +65,10 @@ module _ {V : Type 0} where
           (node-or-last node (length old) (rw (length-leaf old []) at less) (same-or-not (length old) node (length old == node) refl));
     };
     entries_are =
-        let at : path_behind (paths (old ++ [] ∷ []) (length old)) (parent_of (old ++ [] ∷ []) (length old)) ≡ front =
-        sym (get_or_push (paths (old ++ [] ∷ []) (length old)) (path_behind (paths (old ++ [] ∷ []) (length old)) (parent_of (old ++ [] ∷ []) (length old))) [] (length old) (length-paths (old ++ [] ∷ []) (length old))) ∙ is in
+        let at : path_of_child (paths (old ++ [] ∷ []) (length old)) (parent_of (old ++ [] ∷ []) (length old)) ≡ front =
+        sym (get_or_push (paths (old ++ [] ∷ []) (length old)) (path_of_child (paths (old ++ [] ∷ []) (length old)) (parent_of (old ++ [] ∷ []) (length old))) [] (length old) (length-paths (old ++ [] ∷ []) (length old))) ∙ is in
         ap (λ n. held (paths (old ++ [] ∷ []) n) (values ++ Some value ∷ [])) (length-leaf old [])
-        ∙ held-append (paths (old ++ [] ∷ []) (length old)) (path_behind (paths (old ++ [] ∷ []) (length old)) (parent_of (old ++ [] ∷ []) (length old)) ∷ []) values (Some value ∷ []) (length-paths (old ++ [] ∷ []) (length old) ∙ sym same)
+        ∙ held-append (paths (old ++ [] ∷ []) (length old)) (path_of_child (paths (old ++ [] ∷ []) (length old)) (parent_of (old ++ [] ∷ []) (length old)) ∷ []) values (Some value ∷ []) (length-paths (old ++ [] ∷ []) (length old) ∙ sym same)
         ∙ ap (λ w. held (paths (old ++ [] ∷ []) (length old)) values ++ (w, value) ∷ []) (at ∙ sym (append-nil front));
   }
   grows (key ∷ rest) old values value front same tree each is =
@@ -92,13 +92,13 @@ module _ {V : Type 0} where
       let shape_is : next ++ branch (length next) rest ≡ old ++ branch (length old) (key ∷ rest) =
       ap (λ n. next ++ branch n rest) long_next ∙ append_assoc old (((key, suc (length old)) ∷ []) ∷ []) (branch (suc (length old)) rest) in
       let values_are : (values ++ None ∷ []) ++ branch_values rest value ≡ values ++ branch_values (key ∷ rest) value = append_assoc values (None ∷ []) (branch_values rest value) in
-      let paths_are : paths (next ++ [] ∷ []) (length next) ≡ paths leaf (length old) ++ path_behind (paths leaf (length old)) (parent_of leaf (length old)) ∷ [] =
+      let paths_are : paths (next ++ [] ∷ []) (length next) ≡ paths leaf (length old) ++ path_of_child (paths leaf (length old)) (parent_of leaf (length old)) ∷ [] =
       subst (λ s. paths s (length next) ≡ paths leaf (suc (length old))) becomes
       (subst (λ n. paths (grown leaf (length old) key (length leaf)) n ≡ paths leaf (suc (length old))) (long ∙ sym long_next)
       (paths-grown leaf tree (length old) key within free ∙ ap (paths leaf) long)) in
       let before : held (paths (next ++ [] ∷ []) (length next)) (values ++ None ∷ []) ≡ held (paths leaf (length old)) values =
       ap (λ w. held w (values ++ None ∷ [])) paths_are
-      ∙ held-append (paths leaf (length old)) (path_behind (paths leaf (length old)) (parent_of leaf (length old)) ∷ []) values (None ∷ []) (length-paths leaf (length old) ∙ sym same)
+      ∙ held-append (paths leaf (length old)) (path_of_child (paths leaf (length old)) (parent_of leaf (length old)) ∷ []) values (None ∷ []) (length-paths leaf (length old) ∙ sym same)
       ∙ append-nil (held (paths leaf (length old)) values) in
       let entries_are : held (paths (next ++ [] ∷ []) (length next)) (values ++ None ∷ []) ++ ((front ++ key ∷ []) ++ rest, value) ∷ [] ≡ held (paths leaf (length old)) values ++ (front ++ key ∷ rest, value) ∷ [] =
       ap (λ l. l ++ ((front ++ key ∷ []) ++ rest, value) ∷ []) before ∙ ap (λ w. held (paths leaf (length old)) values ++ (w, value) ∷ []) (append_assoc front (key ∷ []) rest) in

@@ -4,7 +4,7 @@ use Rattle.std.specs.Option.{option_or}
 use Rattle.std.proofs.lemmas.List.{get_or_push, get_or_append_left}
 use Rattle.std.proofs.lemmas.List.Folds.{find-append}
 use Rattle.line_keys.specs.declared.keys.KeyEvent.{KeyEvent}
-use Rattle.line_editor.specs.KeyTree.{IsChild, IsTree, Shape, child_by, parent_from, parent_of, path_behind, paths}
+use Rattle.line_editor.specs.KeyTree.{IsChild, IsTree, Shape, child_by, parent_from, parent_of, path_of_child, paths}
 use Rattle.line_editor.proofs.TreePlaceLemmas.{child-none, map-none, or-none_first, parent-later}
 
 or-none : {A : Type 0} (o : Option A) → option_or o None ≡ o
@@ -91,18 +91,18 @@ pub length-paths : (shape : Shape) (n : ℕ) → length (paths shape n) ≡ n
 length-paths shape zero = refl
 length-paths shape (suc n) = let before = length-paths shape n in simp length-append (omega arith)
 
-path-at-by : (shape : Shape) (n node : ℕ) → (node < n → get_or (paths shape n) node [] ≡ path_behind (paths shape node) (parent_of shape node)) → node < suc n → (n ≡ node) ⊎ ((n == node) ≡ false)
-    → get_or (paths shape (suc n)) node [] ≡ path_behind (paths shape node) (parent_of shape node)
+path-at-by : (shape : Shape) (n node : ℕ) → (node < n → get_or (paths shape n) node [] ≡ path_of_child (paths shape node) (parent_of shape node)) → node < suc n → (n ≡ node) ⊎ ((n == node) ≡ false)
+    → get_or (paths shape (suc n)) node [] ≡ path_of_child (paths shape node) (parent_of shape node)
 path-at-by shape n node before less (inl at) =
-    subst (λ m. get_or (paths shape (suc n)) m [] ≡ path_behind (paths shape m) (parent_of shape m)) at
-    (get_or_push (paths shape n) (path_behind (paths shape n) (parent_of shape n)) [] n (length-paths shape n))
+    subst (λ m. get_or (paths shape (suc n)) m [] ≡ path_of_child (paths shape m) (parent_of shape m)) at
+    (get_or_push (paths shape n) (path_of_child (paths shape n) (parent_of shape n)) [] n (length-paths shape n))
 path-at-by shape n node before less (inr other) =
     let under : node < n = below-other n node less (apart-from n node other) in
     let long = length-paths shape n in
-    get_or_append_left (paths shape n) (path_behind (paths shape n) (parent_of shape n) ∷ []) [] node (omega arith) ∙ before under
+    get_or_append_left (paths shape n) (path_of_child (paths shape n) (parent_of shape n) ∷ []) [] node (omega arith) ∙ before under
 
 -- the keys that lead to a node, by its parent
-pub path-at : (shape : Shape) (n node : ℕ) → node < n → get_or (paths shape n) node [] ≡ path_behind (paths shape node) (parent_of shape node)
+pub path-at : (shape : Shape) (n node : ℕ) → node < n → get_or (paths shape n) node [] ≡ path_of_child (paths shape node) (parent_of shape node)
 path-at shape zero node less = absurd (omega arith)
 path-at shape (suc n) node less = path-at-by shape n node (λ under. path-at shape n node under) less (same-or-not n node (n == node) refl)
 

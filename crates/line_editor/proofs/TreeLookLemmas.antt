@@ -10,7 +10,7 @@ use Rattle.std.proofs.lemmas.Map.Made.{length-from_keys}
 use Rattle.std.proofs.lemmas.Slice.Eq.{starts_is}
 use Rattle.line_keys.specs.declared.keys.KeyEvent.{KeyEvent}
 use Rattle.line_editor.specs.Event.{same_key}
-use Rattle.line_editor.specs.KeyTree.{EachLeads, IsTree, LeadsTo, Shape, beginning_count, beginnings, held, value_of, paths}
+use Rattle.line_editor.specs.KeyTree.{EachLeads, IsTree, LeadsTo, Shape, beginning_count, nonempty_beginnings, held, value_of, paths}
 use Rattle.line_editor.proofs.ChordLemmas.{same_key-says}
 use Rattle.line_editor.proofs.TreeLemmas.{length-paths}
 use Rattle.line_editor.proofs.TreeHeldLemmas.{held-any, held-at, held-from, held-no, held-none, same_sequence-laws, same_sequence-says}
@@ -36,25 +36,25 @@ any-flat : {A B C : Type 0} (p : C → Bool) (f : B → List C) (g : A → B) (x
 any-flat p f g [] = refl
 any-flat p f g (x ∷ xs) = list_any-append p (f (g x)) (flat_map f (map g xs)) ∙ ap (λ b. list_any p (f (g x)) || b) (any-flat p f g xs)
 
-length-beginnings : (sequence : List KeyEvent) → length (beginnings sequence) ≡ length sequence
+length-beginnings : (sequence : List KeyEvent) → length (nonempty_beginnings sequence) ≡ length sequence
 length-beginnings [] = refl
 length-beginnings (key ∷ sequence) = let rest = length-beginnings sequence in simp length-map (omega arith)
 
-beginning-at : (sequence : List KeyEvent) (i : ℕ) → i < length sequence → get_or (beginnings sequence) i [] ≡ take (suc i) sequence
+beginning-at : (sequence : List KeyEvent) (i : ℕ) → i < length sequence → get_or (nonempty_beginnings sequence) i [] ≡ take (suc i) sequence
 beginning-at [] i less = absurd (omega arith)
 beginning-at (key ∷ sequence) zero less = refl
 beginning-at (key ∷ sequence) (suc i) less =
     let long = length-beginnings sequence in
-    get_or-map (λ (front : List KeyEvent). key ∷ front) (beginnings sequence) i [] [] (omega arith) ∙ ap (λ (front : List KeyEvent). key ∷ front) (beginning-at sequence i (omega arith))
+    get_or-map (λ (front : List KeyEvent). key ∷ front) (nonempty_beginnings sequence) i [] [] (omega arith) ∙ ap (λ (front : List KeyEvent). key ∷ front) (beginning-at sequence i (omega arith))
 
 -- the beginnings of a sequence are its fronts that are not empty
-among-beginnings : (key : KeyEvent) (front rest : List KeyEvent) → list_any (pointwise same_key (key ∷ front)) (beginnings ((key ∷ front) ++ rest)) ≡ true
+among-beginnings : (key : KeyEvent) (front rest : List KeyEvent) → list_any (pointwise same_key (key ∷ front)) (nonempty_beginnings ((key ∷ front) ++ rest)) ≡ true
 among-beginnings key front rest =
     let whole = (key ∷ front) ++ rest in
     let long = length-beginnings whole in
     let size : length whole ≡ suc (length front) + length rest = ap suc (length-append front rest) ∙ omega arith in
-    let at : get_or (beginnings whole) (length front) [] ≡ key ∷ front = beginning-at whole (length front) (omega arith) ∙ take_at (key ∷ front) rest (suc (length front)) refl in
-    list_any_at (pointwise same_key (key ∷ front)) (beginnings whole) (length front) [] (omega arith) ((same_sequence-says (key ∷ front) (get_or (beginnings whole) (length front) [])).1 (sym at))
+    let at : get_or (nonempty_beginnings whole) (length front) [] ≡ key ∷ front = beginning-at whole (length front) (omega arith) ∙ take_at (key ∷ front) rest (suc (length front)) refl in
+    list_any_at (pointwise same_key (key ∷ front)) (nonempty_beginnings whole) (length front) [] (omega arith) ((same_sequence-says (key ∷ front) (get_or (nonempty_beginnings whole) (length front) [])).1 (sym at))
 
 -- a beginning is not empty, and is a front
 pub record BeginsWith (sequence front : List KeyEvent) : Type 0 where
@@ -62,12 +62,12 @@ pub record BeginsWith (sequence front : List KeyEvent) : Type 0 where
   pub rest : List KeyEvent
   pub is : sequence ≡ front ++ rest
 
-from-beginnings : (sequence front : List KeyEvent) → list_any (pointwise same_key front) (beginnings sequence) ≡ true → BeginsWith sequence front
+from-beginnings : (sequence front : List KeyEvent) → list_any (pointwise same_key front) (nonempty_beginnings sequence) ≡ true → BeginsWith sequence front
 from-beginnings sequence front any =
-    let at = any-place (pointwise same_key front) (beginnings sequence) [] any in
+    let at = any-place (pointwise same_key front) (nonempty_beginnings sequence) [] any in
     let long = length-beginnings sequence in
     let under : at.0 < length sequence = omega arith in
-    let same : front ≡ take (suc at.0) sequence = (same_sequence-says front (get_or (beginnings sequence) at.0 [])).0 at.2 ∙ beginning-at sequence at.0 under in
+    let same : front ≡ take (suc at.0) sequence = (same_sequence-says front (get_or (nonempty_beginnings sequence) at.0 [])).0 at.2 ∙ beginning-at sequence at.0 under in
     let size : length front ≡ suc at.0 = ap length same ∙ length-take-le (suc at.0) sequence (omega arith) in
     record {
       some = omega arith;
@@ -75,7 +75,7 @@ from-beginnings sequence front any =
       is = sym (take-append-drop (suc at.0) sequence) ∙ ap (λ l. l ++ drop (suc at.0) sequence) (sym same);
     }
 
-front-among : (front rest : List KeyEvent) → (front ≡ [] → ⊥) → list_any (pointwise same_key front) (beginnings (front ++ rest)) ≡ true
+front-among : (front rest : List KeyEvent) → (front ≡ [] → ⊥) → list_any (pointwise same_key front) (nonempty_beginnings (front ++ rest)) ≡ true
 front-among [] rest some = absurd (some refl)
 front-among (key ∷ front) rest some = among-beginnings key front rest
 
@@ -147,14 +147,14 @@ module _ (shape : Shape) (tree : IsTree shape) where
         (λ is. absurd (cc))
 
     found-among : EachLeads shape values → (front : List KeyEvent) → is_member (pointwise same_key) (drop 1 (paths shape (length shape))) front ≡ true
-        → list_any (λ (entry : List KeyEvent × V). list_any (pointwise same_key front) (beginnings entry.0)) (held (paths shape (length shape)) values) ≡ true
+        → list_any (λ (entry : List KeyEvent × V). list_any (pointwise same_key front) (nonempty_beginnings entry.0)) (held (paths shape (length shape)) values) ≡ true
     found-among each front is =
         let at = any-place (pointwise same_key front) (drop 1 (paths shape (length shape))) [] is in
         let long = length-others in
         let keys : front ≡ path shape (suc at.0) = (same_sequence-says front (get_or (drop 1 (paths shape (length shape))) at.0 [])).0 at.2 ∙ other-path at.0 in
         let end = leads shape tree values each (suc at.0) (omega arith) in
         let long_paths = length-paths shape (length shape) in
-        held-any (λ w. list_any (pointwise same_key front) (beginnings w)) (paths shape (length shape)) values end.0 end.1 (rw long_paths end.3) end.4
+        held-any (λ w. list_any (pointwise same_key front) (nonempty_beginnings w)) (paths shape (length shape)) values end.0 end.1 (rw long_paths end.3) end.4
         (rw (end.5, ← keys) (front-among front end.2 (λ none. let one = one-node shape tree (suc at.0) 0 (omega arith) (omega arith) (sym keys ∙ none ∙ sym (root-path (omega arith))) in absurd (omega arith))))
 
     among-by : (front : List KeyEvent) (node : ℕ) → node < length shape → path shape node ≡ front → 0 < length front → is_member (pointwise same_key) (drop 1 (paths shape (length shape))) front ≡ true
@@ -164,10 +164,10 @@ module _ (shape : Shape) (tree : IsTree shape) where
         list_any_at (pointwise same_key front) (drop 1 (paths shape (length shape))) node [] (omega arith)
         ((same_sequence-says front (get_or (drop 1 (paths shape (length shape))) node [])).1 (sym (other-path node ∙ is)))
 
-    among-found : (front : List KeyEvent) → list_any (λ (entry : List KeyEvent × V). list_any (pointwise same_key front) (beginnings entry.0)) (held (paths shape (length shape)) values) ≡ true
+    among-found : (front : List KeyEvent) → list_any (λ (entry : List KeyEvent × V). list_any (pointwise same_key front) (nonempty_beginnings entry.0)) (held (paths shape (length shape)) values) ≡ true
         → is_member (pointwise same_key) (drop 1 (paths shape (length shape))) front ≡ true
     among-found front is =
-        let from = held-from (λ w. list_any (pointwise same_key front) (beginnings w)) (paths shape (length shape)) values is in
+        let from = held-from (λ w. list_any (pointwise same_key front) (nonempty_beginnings w)) (paths shape (length shape)) values is in
         let long = length-paths shape (length shape) in
         let begins = from-beginnings (path shape from.0) front from.2 in
         let at = front-node shape tree from.0 (rw long at from.1) front begins.rest begins.is in
@@ -177,8 +177,8 @@ module _ (shape : Shape) (tree : IsTree shape) where
     pub others-counted : EachLeads shape values → length shape - 1 ≡ beginning_count (map (λ (entry : List KeyEvent × V). entry.0) (held (paths shape (length shape)) values))
     others-counted each =
         sym length-others
-        ∙ length-from_keys same_sequence-laws (drop 1 (paths shape (length shape))) (flat_map beginnings (map (λ (entry : List KeyEvent × V). entry.0) (held (paths shape (length shape)) values)))
+        ∙ length-from_keys same_sequence-laws (drop 1 (paths shape (length shape))) (flat_map nonempty_beginnings (map (λ (entry : List KeyEvent × V). entry.0) (held (paths shape (length shape)) values)))
         (IsDistinct-from_apart (pointwise same_key) (drop 1 (paths shape (length shape))) others-apart)
-        (λ front. same-answers (is_member (pointwise same_key) (drop 1 (paths shape (length shape))) front) (is_member (pointwise same_key) (flat_map beginnings (map (λ (entry : List KeyEvent × V). entry.0) (held (paths shape (length shape)) values))) front)
-        (λ is. any-flat (pointwise same_key front) beginnings (λ (entry : List KeyEvent × V). entry.0) (held (paths shape (length shape)) values) ∙ found-among each front is)
-        (λ is. among-found front (sym (any-flat (pointwise same_key front) beginnings (λ (entry : List KeyEvent × V). entry.0) (held (paths shape (length shape)) values)) ∙ is)))
+        (λ front. same-answers (is_member (pointwise same_key) (drop 1 (paths shape (length shape))) front) (is_member (pointwise same_key) (flat_map nonempty_beginnings (map (λ (entry : List KeyEvent × V). entry.0) (held (paths shape (length shape)) values))) front)
+        (λ is. any-flat (pointwise same_key front) nonempty_beginnings (λ (entry : List KeyEvent × V). entry.0) (held (paths shape (length shape)) values) ∙ found-among each front is)
+        (λ is. among-found front (sym (any-flat (pointwise same_key front) nonempty_beginnings (λ (entry : List KeyEvent × V). entry.0) (held (paths shape (length shape)) values)) ∙ is)))

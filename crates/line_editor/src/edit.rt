@@ -2,7 +2,7 @@
 ghost use Rattle.std.specs.Prelude.{IsCharBoundary, ◌≡◌, ◌≤◌, ◌+◌, ◌++◌, ◌∷◌, [], ℕ, nat_lt, List, true, false, Option, Some, None, option_map, is_some, length, IfOk, IfSome, OnOk, OnErr, IsOk};
 ghost use Rattle.std.specs.Borrow.{GName};
 ghost use Rattle.line_config.specs.Error.{MemoryOnly};
-ghost use Rattle.line_editor.specs.Editor.{Begins};
+ghost use Rattle.line_editor.specs.Editor.{EditorBegins};
 ghost use Rattle.line_editor.specs.Info.{shown_info};
 ghost use Rattle.std.specs.List.{list_all};
 ghost use Rattle.line_buffer.specs.Line.{Line, inserted_at_cursor, is_at_end};
@@ -130,7 +130,7 @@ impl<'out, 'prompt, W: Renderer, H: Helper, P: Prompt, S: History> State<
         ctx: Context<'out, S>,
     ) -> Result<Self>
         ensures made { IsOk result }
-        ensures begins { IfOk result (λ s. Begins ⟦<Self as EditorState>⟧ s
+        ensures begins { IfOk result (λ s. EditorBegins ⟦<Self as EditorState>⟧ s
             (empty_draft ctx.entry.index)
             (environment_by H.hint_at H.verdict_at H.lights H.Completer helper.entry
             (S.lines ctx.entry.history))
@@ -158,7 +158,7 @@ impl<'out, 'prompt, W: Renderer, H: Helper, P: Prompt, S: History> State<
         cursor: usize,
     ) -> Result<Self>
         requires { IsCharBoundary text.now cursor }
-        ensures begins { IfOk result (λ s. Begins ⟦<Self as EditorState>⟧ s
+        ensures begins { IfOk result (λ s. EditorBegins ⟦<Self as EditorState>⟧ s
             (record (empty_draft ctx.entry.index) {
               line = record { text = text.now; cursor = cursor };
             })
@@ -183,7 +183,7 @@ impl<'out, 'prompt, W: Renderer, H: Helper, P: Prompt, S: History> State<
         ctx: Context<'out, S>,
         edited: EditedLine,
     ) -> Self
-        ensures { Begins ⟦<Self as EditorState>⟧ result
+        ensures { EditorBegins ⟦<Self as EditorState>⟧ result
             (record (empty_draft ctx.entry.index) { line = edited.line; changes = edited.changes })
             (environment_by H.hint_at H.verdict_at H.lights H.Completer helper.entry
             (S.lines ctx.entry.history))

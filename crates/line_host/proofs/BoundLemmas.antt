@@ -10,7 +10,7 @@ use Rattle.line_editor.specs.declared.binding.EventHandler.{EventHandler}
 use Rattle.line_editor.specs.declared.binding.EventHandler.TheVariants.{Conditional, Simple}
 use Rattle.line_editor.specs.declared.binding.NoHandler.{NoHandler}
 use Rattle.line_editor.specs.declared.bindings.Bindings.{Bindings}
-use Rattle.line_host.specs.Bound.{BoundCommands, bound, command_at, command_in, commands_in}
+use Rattle.line_host.specs.Bound.{BoundCommands, bound, command_at, command_in, bound_commands}
 
 -- commands that are bound as nothing are none
 pub none_bound : (commands : BoundCommands) → bound commands ≡ [] → commands ≡ []
@@ -37,7 +37,7 @@ module _ (g : handlers.Ghosts NoHandler) (no_command : (handler : NoHandler) →
   bound_parts one two three = map-append _ (one ++ two) three ∙ ap (λ bs. bs ++ bound three) (map-append _ one two)
 
   -- bindings of commands alone are those of their commands
-  pub commands_bound : (bindings : Bindings NoHandler) → bound_of g bindings ≡ bound (commands_in bindings)
+  pub commands_bound : (bindings : Bindings NoHandler) → bound_of g bindings ≡ bound (bound_commands bindings)
   commands_bound bindings =
       ap (λ bs. bs ++ bound_to (handled g) mouse bindings.mouse ++ map (λ (e : List KeyEvent × EventHandler NoHandler). (keys e.0, handled g e.1)) bindings.sequences)
       (at_is each_key bindings.any)
@@ -48,9 +48,9 @@ module _ (g : handlers.Ghosts NoHandler) (no_command : (handler : NoHandler) →
 
   -- what was bound anew in bindings was bound anew in their commands
   pub rebinds_commands : (old new : Bindings NoHandler) (before : BoundCommands) (chord : Chord) (handler : EventHandler NoHandler) (command : Command)
-      → commands_in old ≡ before → handled g handler ≡ answers (Some command) → Rebinds (bound_of g old) (bound_of g new) chord (handled g handler)
-      → Rebinds (bound before) (bound (commands_in new)) chord (answers (Some command))
+      → bound_commands old ≡ before → handled g handler ≡ answers (Some command) → Rebinds (bound_of g old) (bound_of g new) chord (handled g handler)
+      → Rebinds (bound before) (bound (bound_commands new)) chord (answers (Some command))
   rebinds_commands old new before chord handler command was is rebinds =
-      subst (λ b. Rebinds b (bound (commands_in new)) chord (answers (Some command))) (commands_bound old ∙ ap bound was)
+      subst (λ b. Rebinds b (bound (bound_commands new)) chord (answers (Some command))) (commands_bound old ∙ ap bound was)
       (subst (λ b. Rebinds (bound_of g old) b chord (answers (Some command))) (commands_bound new)
       (subst (λ h. Rebinds (bound_of g old) (bound_of g new) chord h) is rebinds))

@@ -12,8 +12,8 @@ use Rattle.line_session.specs.Sitting.{Sitting, suspends}
 use Rattle.line_session.specs.declared.editor.Fed.{Fed}
 use Rattle.line_session.specs.declared.editor.Fed.TheVariants as feds
 use Rattle.line_session.specs.declared.editor.Heard.{Heard}
-use Rattle.line_host.specs.Hosted.{BindsKeys, CameTo, Hosted, Tells, with_editor}
-use Rattle.line_host.specs.Status.{IsDoneOrFault, IsFault, MayBind}
+use Rattle.line_host.specs.Hosted.{BindsKeys, CameTo, Hosted, TellsStatus, with_editor}
+use Rattle.line_host.specs.Status.{IsDoneOrFault, ReportsFault, MayBind}
 use Rattle.line_host.specs.declared.status.Status.{Status}
 use Rattle.line_host.specs.declared.status.Status.TheVariants as status
 
@@ -59,7 +59,7 @@ module _ {H : Type 0} (answers : H → List (List ℕ) → Environment) where
 
   -- what a status tells of a line is what came of it
   pub tells_came : (Comes : Sitting H → Fed → Type 0) (Left : Sitting H → Type 0) (old mid new : Hosted H) (fed : Result Fed ReadlineError) (came : Status)
-      → IfOk fed (Comes mid.editor) → mid ≡ with_editor mid.editor old → OnErr fed (Left mid.editor) → Tells fed mid new came
+      → IfOk fed (Comes mid.editor) → mid ≡ with_editor mid.editor old → OnErr fed (Left mid.editor) → TellsStatus fed mid new came
       → CameTo (Comes new.editor) (Left new.editor) old new came
   tells_came Comes Left old mid new (Ok feds.More) came comes stays left told =
       subst (λ n. CameTo (Comes n.editor) (Left n.editor) old n came) (sym told.1)
@@ -79,7 +79,7 @@ module _ {H : Type 0} (answers : H → List (List ℕ) → Environment) where
   tells_came Comes Left old mid new (Err error) came comes stays left told =
       subst (λ n. CameTo (Comes n.editor) (Left n.editor) old n came) (sym told.1) (by_fault came told.0)
     where
-      by_fault : (came : Status) → IsFault came → CameTo (Comes mid.editor) (Left mid.editor) old mid came
+      by_fault : (came : Status) → ReportsFault came → CameTo (Comes mid.editor) (Left mid.editor) old mid came
       by_fault status.NoMemory fault = (tt, left, stays)
       by_fault status.Failed fault = (tt, left, stays)
       by_fault _ fault = absurd fault
@@ -90,7 +90,7 @@ both P Q (Ok t) one other = (one, other)
 both P Q (Err e) one other = tt
 
 -- a status that tells whether it was done
-pub done_or_fault : {T E : Type 0} (done : Result T E) (came : Status) → OnOk done (came ≡ status.Done) → OnErr done (IsFault came) → IsDoneOrFault came
+pub done_or_fault : {T E : Type 0} (done : Result T E) (came : Status) → OnOk done (came ≡ status.Done) → OnErr done (ReportsFault came) → IsDoneOrFault came
 done_or_fault (Ok t) came is fault = subst IsDoneOrFault (sym is) tt
 done_or_fault (Err e) status.NoMemory is fault = tt
 done_or_fault (Err e) status.Failed is fault = tt

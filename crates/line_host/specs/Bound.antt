@@ -27,6 +27,6 @@ command_at chord None = []
 command_at chord (Some handler) = (chord, command_in handler) ∷ []
 
 -- the commands that bindings hold
-abbrev pub commands_in : Bindings NoHandler → BoundCommands
-commands_in bindings = command_at each_key bindings.any ++ command_at mouse bindings.mouse
+abbrev pub bound_commands : Bindings NoHandler → BoundCommands
+bound_commands bindings = command_at each_key bindings.any ++ command_at mouse bindings.mouse
     ++ map (λ entry. (keys entry.0, command_in entry.1)) bindings.sequences

@@ -4,7 +4,7 @@ use Rattle.line_host.specs.declared.status.Status.{Status}
 use Rattle.line_host.specs.declared.status.Status.TheVariants as status
 
 -- as many bytes as there are and a buffer has room for were taken into it; the rest of both stays
-pub record Takes (had has buffer filled : List ℕ) (count : ℕ) : Type 0 where
+pub record TakesBytes (had has buffer filled : List ℕ) (count : ℕ) : Type 0 where
   pub counts : count ≡ min (length had) (length buffer)
   pub given : take count filled ≡ take count had
   pub left : has ≡ drop count had
@@ -14,7 +14,7 @@ pub record Takes (had has buffer filled : List ℕ) (count : ℕ) : Type 0 where
 pub record TakesOutput (had has buffer filled : List ℕ) (count : ℕ) : Type 0 where
   pub bytes : List ℕ
   pub kept : had ≢ [] → bytes ≡ had
-  pub takes : Takes bytes has buffer filled count
+  pub takes : TakesBytes bytes has buffer filled count
 
 -- a text was copied into a buffer, where it has room for all of it, and else nothing was; its length is reported
 pub record Copies (text buffer filled : List ℕ) (told : ℕ) (came : Status) : Type 0 where

@@ -42,8 +42,8 @@ pub record SetsWords (text : List ℕ) (old new : Hosted Helped) (came : Status)
 
 -- what answers for a line of a session: hints come from the history, a line is judged by its brackets and their matches are lit, each where it is
 -- switched on; and words complete
-abbrev pub answers : Helped → List (List ℕ) → Environment
-answers helper newest = record {
+abbrev pub answers_by : Helped → List (List ℕ) → Environment
+answers_by helper newest = record {
   hint_at = λ shown. if helper.hinter.hints then option_map suggested (history_hint shown) else None;
   verdict_at = Some (λ text. if helper.validator.brackets then bracket_verdict text else valid None);
   lights = λ text cursor kind. helper.highlighter.lights_brackets && is_some (remembered text cursor kind);

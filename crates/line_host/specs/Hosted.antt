@@ -7,18 +7,18 @@ use Rattle.std.specs.Str.{IsUtf8}
 use Rattle.line_parts.specs.Environment.{Environment}
 use Rattle.line_editor.specs.Binding.{Bound, Rebinds}
 use Rattle.line_editor.specs.Binding as binding
-use Rattle.line_term.specs.Decoder.{Turn}
+use Rattle.line_term.specs.Decoder.{DecoderTurn}
 use Rattle.line_keys.specs.Command.{Command}
 use Rattle.line_parts.specs.History.{added, settled}
 use Rattle.line_parts.specs.HistoryText.{to_save}
 use Rattle.line_parts.specs.declared.escaped_line.Escapes.TheVariants.{V3}
 use Rattle.line_editor.specs.Event.{Chord}
 use Rattle.line_session.specs.Filed.{Files, LoadsText}
-use Rattle.line_session.specs.Sitting.{BeginsOrStays, BegunLine, Came, CameBegun, Keeps, LosesNothing, Sitting, drawn_anew, suspends, text_of, with_turn, written_so_far}
+use Rattle.line_session.specs.Sitting.{BeginsOrStays, BegunLine, Came, CameBegun, Keeps, LosesNothing, Sitting, to_be_drawn, suspends, line_text, with_turn, written_so_far}
 use Rattle.line_session.specs.declared.editor.Fed.{Fed}
 use Rattle.line_session.specs.declared.editor.Fed.TheVariants as fed
 use Rattle.line_host.specs.Bound.{BoundCommands, bound}
-use Rattle.line_host.specs.Status.{IsDoneOrFault, IsFault, MayBind}
+use Rattle.line_host.specs.Status.{IsDoneOrFault, ReportsFault, MayBind}
 use Rattle.line_host.specs.declared.status.Status.{Status}
 use Rattle.line_host.specs.declared.status.Status.TheVariants as status
 
@@ -32,8 +32,8 @@ pub record Hosted (H : Type 0) : Type 0 where
   pub saved : List ℕ
 
 -- these are texts: a prompt without styles and with them, and what stands before and after the cursor
-abbrev pub AreTexts : List ℕ → List ℕ → List ℕ → List ℕ → Type 0
-AreTexts prompt styled left right = IsUtf8 prompt × IsUtf8 styled × IsUtf8 left × IsUtf8 right
+abbrev pub AreLineTexts : List ℕ → List ℕ → List ℕ → List ℕ → Type 0
+AreLineTexts prompt styled left right = IsUtf8 prompt × IsUtf8 styled × IsUtf8 left × IsUtf8 right
 
 module _ {H : Type 0} where
   -- the same session with another editor
@@ -49,16 +49,16 @@ module _ {H : Type 0} where
       (text : String Global) × Comes (fed.Submitted text) × (new ≡ record (with_editor new.editor old) { submitted = Some (string_bytes text) })
   CameTo Comes Left old new status.Ended = Comes fed.Ended × (new ≡ with_editor new.editor old)
   CameTo Comes Left old new status.Interrupted = Comes fed.Interrupted × (new ≡ with_editor new.editor old)
-  CameTo Comes Left old new other = IsFault other × Left × (new ≡ with_editor new.editor old)
+  CameTo Comes Left old new other = ReportsFault other × Left × (new ≡ with_editor new.editor old)
 
   -- the text of the line that goes on, or else of the one that was submitted last, if one was
   abbrev pub line_of : Hosted H → Option (List ℕ)
-  line_of session = option_or (text_of session.editor) session.submitted
+  line_of session = option_or (line_text session.editor) session.submitted
 
   -- the line is dropped, which this status reports; or there was a fault, and the line is drawn anew at the next call
   abbrev pub Drops : Status → Hosted H → Hosted H → Status → Type 0
   Drops told old new came = ((came ≡ told) × (new ≡ with_editor (record old.editor { line = None }) old))
-      ⊎ (IsFault came × (new ≡ with_editor (drawn_anew old.editor) old))
+      ⊎ (ReportsFault came × (new ≡ with_editor (to_be_drawn old.editor) old))
 
   -- the line that goes on is dropped, if one does
   pub record Abandons (old new : Hosted H) (came : Status) : Type 0 where
@@ -78,7 +78,7 @@ module _ {H : Type 0} where
     pub loaded : Result (Option Bool) ReadlineError
     pub loads : Files (LoadsText loaded (Some text)) old.editor new.editor
     pub done : OnOk loaded (came ≡ status.Done)
-    pub failed : OnErr loaded (IsFault came ⊎ (came ≡ status.NotText))
+    pub failed : OnErr loaded (ReportsFault came ⊎ (came ≡ status.NotText))
 
   -- the same, unless a line goes on
   pub record LoadsHistory (text : List ℕ) (old new : Hosted H) (came : Status) : Type 0 where
@@ -109,44 +109,44 @@ module _ {H : Type 0} where
     pub kept : came ≢ status.Done → new ≡ old
 
   -- what becomes of a line is reported by a status, and the text of one that was submitted is kept
-  abbrev pub Tells : Result Fed ReadlineError → Hosted H → Hosted H → Status → Type 0
-  Tells (Ok fed.More) old new came = (came ≡ (if suspends old.editor then status.Suspended else status.Done)) × (new ≡ old)
-  Tells (Ok (fed.Submitted text)) old new came = (came ≡ status.Submitted) × (new ≡ record old { submitted = Some (string_bytes text) })
-  Tells (Ok fed.Ended) old new came = (came ≡ status.Ended) × (new ≡ old)
-  Tells (Ok fed.Interrupted) old new came = (came ≡ status.Interrupted) × (new ≡ old)
-  Tells (Err error) old new came = IsFault came × (new ≡ old)
+  abbrev pub TellsStatus : Result Fed ReadlineError → Hosted H → Hosted H → Status → Type 0
+  TellsStatus (Ok fed.More) old new came = (came ≡ (if suspends old.editor then status.Suspended else status.Done)) × (new ≡ old)
+  TellsStatus (Ok (fed.Submitted text)) old new came = (came ≡ status.Submitted) × (new ≡ record old { submitted = Some (string_bytes text) })
+  TellsStatus (Ok fed.Ended) old new came = (came ≡ status.Ended) × (new ≡ old)
+  TellsStatus (Ok fed.Interrupted) old new came = (came ≡ status.Interrupted) × (new ≡ old)
+  TellsStatus (Err error) old new came = ReportsFault came × (new ≡ old)
 
   module _ (answers : H → List (List ℕ) → Environment) where
     -- what became of a line that had begun, by bindings
-    abbrev pub Turns : Bound → Turn → Sitting H → BegunLine → Sitting H → Fed → Type 0
-    Turns by turn old begun new fed = Came answers by (with_turn turn old) begun new fed × Keeps answers (with_turn turn old) new
+    abbrev pub AdvancesLine : Bound → DecoderTurn → Sitting H → BegunLine → Sitting H → Fed → Type 0
+    AdvancesLine by turn old begun new fed = Came answers by (with_turn turn old) begun new fed × Keeps answers (with_turn turn old) new
 
     -- what became of a line that began after a prompt, with these texts before and after the cursor
-    abbrev pub Begins : Bound → List ℕ → List ℕ → List ℕ → Sitting H → Sitting H → Fed → Type 0
-    Begins by prompt left right old new fed = CameBegun answers by prompt left right old new fed × Keeps answers (record old { prompt = prompt }) new
+    abbrev pub BeginsAfterPrompt : Bound → List ℕ → List ℕ → List ℕ → Sitting H → Sitting H → Fed → Type 0
+    BeginsAfterPrompt by prompt left right old new fed = CameBegun answers by prompt left right old new fed × Keeps answers (record old { prompt = prompt }) new
 
     -- a line began after a prompt, unless a text is none. After a fault some line and the history's lines are there, or those before
     pub record BeginsLine (prompt styled left right : List ℕ) (old new : Hosted H) (came : Status) : Type 0 where
-      pub begins : AreTexts prompt styled left right → CameTo (Begins (bound old.commands) prompt left right old.editor new.editor)
+      pub begins : AreLineTexts prompt styled left right → CameTo (BeginsAfterPrompt (bound old.commands) prompt left right old.editor new.editor)
           (BeginsOrStays answers prompt left right old.editor new.editor) old new came
-      pub no_text : ¬ (AreTexts prompt styled left right) → (came ≡ status.NotText) × (new ≡ old)
+      pub no_text : ¬ (AreLineTexts prompt styled left right) → (came ≡ status.NotText) × (new ≡ old)
 
     -- items were read, and their turns taken. Where no line had begun nothing changes. After a fault nothing is lost
-    pub record TakesTurns (turn : Turn) (old new : Hosted H) (came : Status) : Type 0 where
+    pub record ReadsItems (turn : DecoderTurn) (old new : Hosted H) (came : Status) : Type 0 where
       pub no_line : old.editor.line ≡ None → (came ≡ status.NoLine) × (new ≡ old)
       pub comes : (begun : BegunLine) → old.editor.line ≡ Some begun
-          → CameTo (Turns (bound old.commands) turn old.editor begun new.editor) (LosesNothing old.editor new.editor) old new came
+          → CameTo (AdvancesLine (bound old.commands) turn old.editor begun new.editor) (LosesNothing old.editor new.editor) old new came
 
     -- the end of all bytes was read, and turns taken; a line that would go on ends
-    pub record Finishes (turn : Turn) (old new : Hosted H) (came : Status) : Type 0 where
+    pub record Finishes (turn : DecoderTurn) (old new : Hosted H) (came : Status) : Type 0 where
       pub left : Hosted H
       pub told : Status
-      pub takes : TakesTurns turn old left told
+      pub takes : ReadsItems turn old left told
       pub ends : told ≡ status.Done → Drops status.Ended left new came
       pub stands : told ≢ status.Done → (came ≡ told) × (new ≡ left)
 
     -- columns and rows are the new ones, unless there are no columns; the line that goes on, if one does, stays, and so does all else
-    pub record ResizesTo (columns rows : ℕ) (old new : Hosted H) (came : Status) : Type 0 where
+    pub record ResizesSession (columns rows : ℕ) (old new : Hosted H) (came : Status) : Type 0 where
       pub none : columns ≡ 0 → (came ≡ status.BadSetting) × (new ≡ old)
       pub answered : 0 < columns → IsDoneOrFault came
       pub stays : new ≡ with_editor new.editor old

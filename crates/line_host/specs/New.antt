@@ -4,10 +4,10 @@ use Rattle.line_buffer.specs.KillRing.{empty_ring}
 use Rattle.line_parts.specs.History.{rules_of}
 use Rattle.line_screen.specs.KeyQueue.{queue_binding}
 use Rattle.line_term.specs.Decoder.{fresh}
-use Rattle.line_host.specs.Helped.{Helped, answers}
+use Rattle.line_host.specs.Helped.{Helped, answers_by}
 use Rattle.line_host.specs.Hosted.{Hosted}
 use Rattle.line_host.specs.Settings.{config_of, is_yes}
-use Rattle.line_host.specs.Status.{IsFault}
+use Rattle.line_host.specs.Status.{ReportsFault}
 use Rattle.line_host.specs.declared.settings.Settings.{Settings}
 use Rattle.line_host.specs.declared.status.Status.{Status}
 use Rattle.line_host.specs.declared.status.Status.TheVariants.{BadSetting}
@@ -27,7 +27,7 @@ pub record IsNew (settings : Settings) (session : Hosted Helped) : Type 0 where
   pub takes : session.editor.takes ≡ rules_of (config_of settings)
   pub helper : Helped
   pub helps : HelpsBy settings helper
-  pub answers_alike : (newest : List (List ℕ)) → answers session.editor.helper newest ≡ answers helper newest
+  pub answers_alike : (newest : List (List ℕ)) → answers_by session.editor.helper newest ≡ answers_by helper newest
   pub kills : session.editor.kills ≡ empty_ring 60
   pub items : session.editor.items ≡ []
   pub own : queue_binding session.editor.binds ≡ queue_binding true
@@ -42,4 +42,4 @@ pub record IsNew (settings : Settings) (session : Hosted Helped) : Type 0 where
 
 -- why there is none: there was a fault, or there are no columns
 abbrev pub Refuses : Settings → Status → Type 0
-Refuses settings came = IsFault came ⊎ ((came ≡ BadSetting) × (settings.columns ≡ 0))
+Refuses settings came = ReportsFault came ⊎ ((came ≡ BadSetting) × (settings.columns ≡ 0))

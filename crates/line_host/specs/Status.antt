@@ -23,15 +23,15 @@ code_of status.InUse = 25
 code_of status.BadSetting = 27
 
 -- memory ran out, or input or output failed
-abbrev pub IsFault : Status → Type 0
-IsFault status.NoMemory = Unit {0}
-IsFault status.Failed = Unit {0}
-IsFault _ = ⊥
+abbrev pub ReportsFault : Status → Type 0
+ReportsFault status.NoMemory = Unit {0}
+ReportsFault status.Failed = Unit {0}
+ReportsFault _ = ⊥
 
 -- it is done, or there was a fault
 abbrev pub IsDoneOrFault : Status → Type 0
 IsDoneOrFault status.Done = Unit {0}
-IsDoneOrFault other = IsFault other
+IsDoneOrFault other = ReportsFault other
 
 -- it is done, or memory ran out
 abbrev pub IsDoneOrMemory : Status → Type 0

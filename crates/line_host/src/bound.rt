@@ -20,11 +20,11 @@ pub struct BoundCommands {
 }
 
 impl Model for BoundCommands {
-    ghost use Rattle.line_host.specs.Bound.{BoundCommands, commands_in};
+    ghost use Rattle.line_host.specs.Bound.{BoundCommands, bound_commands};
 
     ghost Value = { BoundCommands };
 
-    ghost view = { λ b. commands_in b.bindings };
+    ghost view = { λ b. bound_commands b.bindings };
 }
 
 impl BoundCommands {

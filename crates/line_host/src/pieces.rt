@@ -1,6 +1,6 @@
 //! Bytes that are taken in pieces.
 ghost use Rattle.std.specs.Prelude.{◌≡◌, ◌↔◌, ◌≤◌, List, ℕ, [], true, drop, length, min, take};
-ghost use Rattle.line_host.specs.Copied.{Copies, Takes};
+ghost use Rattle.line_host.specs.Copied.{Copies, TakesBytes};
 
 use crate::status::Status;
 use std::alloc::Global;
@@ -45,7 +45,7 @@ impl Pieces {
 
     /// Takes bytes from the front into `buffer`, as many as there are and it has room for. Returns how many were taken.
     pub fn take(&mut self, buffer: &mut [u8]) -> usize
-        ensures { Takes self.old self.new buffer.old buffer.new result }
+        ensures { TakesBytes self.old self.new buffer.old buffer.new result }
     {
         let left = &self.bytes[self.taken..];
         let count = copy_start(left, buffer);

@@ -2,9 +2,9 @@
 ghost use Rattle.std.specs.Prelude.{◌≡◌, ◌≢◌, ◌∷◌, ◌++◌, [], None, Some, Err, map, option_map, string_bytes, IfOk, MatchResult, OnErr};
 ghost use Rattle.line_config.specs.Error.{FaultsOnly, MemoryOnly};
 ghost use Rattle.line_host.specs.Bound.{bound};
-ghost use Rattle.line_host.specs.Copied.{CopiesIfAny, Takes, TakesOutput};
-ghost use Rattle.line_host.specs.Helped.{SetsWords, answers, words_in};
-ghost use Rattle.line_host.specs.Hosted.{Abandons, AddsLine, BeginsLine, Drops, Finishes, BindsKeys, LoadsHistory, ResizesTo, SavesHistory, TakesTurns, Tells, TellsCursor, line_of, with_editor};
+ghost use Rattle.line_host.specs.Copied.{CopiesIfAny, TakesBytes, TakesOutput};
+ghost use Rattle.line_host.specs.Helped.{SetsWords, answers_by, words_in};
+ghost use Rattle.line_host.specs.Hosted.{Abandons, AddsLine, BeginsLine, Drops, Finishes, BindsKeys, LoadsHistory, ResizesSession, SavesHistory, ReadsItems, TellsStatus, TellsCursor, line_of, with_editor};
 ghost use Rattle.line_host.specs.New.{IsNew, Refuses};
 ghost use Rattle.line_session.specs.Heard.{BeginsReading, Feeds, turn_of};
 ghost use Rattle.line_term.specs.Decoder.{finished, flushed, is_waiting, read};
@@ -113,7 +113,7 @@ impl Session {
     /// the line has begun by then, it goes on at the next call; if not, the line before goes on unchanged, if there was one. Returns `NotText`,
     /// where one of these texts is not UTF-8, and nothing changes then.
     pub fn begin(&mut self, prompt: &[u8], styled: &[u8], left: &[u8], right: &[u8]) -> Status
-        ensures { BeginsLine answers prompt.now styled.now left.now right.now self.old self.new
+        ensures { BeginsLine answers_by prompt.now styled.now left.now right.now self.old self.new
             result }
     {
         let (Ok(prompt), Ok(styled)) = (str::from_utf8(prompt), str::from_utf8(styled)) else {
@@ -131,7 +131,7 @@ impl Session {
     /// Returns `Done`, where the line goes on; `Suspended`; `Submitted`; `Ended`; `Interrupted`; a fault, `NoMemory` or `Failed`: the
     /// line goes on at the next call; or `NoLine`, and nothing is read then.
     pub fn feed(&mut self, bytes: &[u8]) -> Status
-        ensures { TakesTurns answers (read self.old.editor.decoder bytes.now) self.old self.new
+        ensures { ReadsItems answers_by (read self.old.editor.decoder bytes.now) self.old self.new
             result }
     {
         self.hear(Heard::Bytes(bytes))
@@ -140,14 +140,14 @@ impl Session {
     /// Settles what bytes have begun, as none have arrived for a moment: a lone Esc is the Esc key then, and of a pasted text what has
     /// arrived is put in. The twentieth such call behind the last byte ends what has not ended. Returns what `feed` does.
     pub fn flush(&mut self) -> Status
-        ensures { TakesTurns answers (flushed self.old.editor.decoder) self.old self.new result }
+        ensures { ReadsItems answers_by (flushed self.old.editor.decoder) self.old self.new result }
     {
         self.hear(Heard::Pause)
     }
 
     /// Reads the end of all bytes. Returns what `feed` does, but for `Done`: a line that would go on ends, as no more can arrive.
     pub fn finish(&mut self) -> Status
-        ensures { Finishes answers (finished self.old.editor.decoder) self.old self.new result }
+        ensures { Finishes answers_by (finished self.old.editor.decoder) self.old self.new result }
     {
         match self.hear(Heard::End) {
             Status::Done => self.end(Status::Ended),
@@ -179,8 +179,8 @@ impl Session {
 
     /// Reads what is heard of the terminal.
     fn hear(&mut self, heard: Heard<'_>) -> Status
-        ensures { TakesTurns answers (turn_of heard.entry self.old.editor.decoder) self.old self.new
-            result }
+        ensures { ReadsItems answers_by (turn_of heard.entry self.old.editor.decoder)
+            self.old self.new result }
     {
         if self.editor.line().is_none() {
             return Status::NoLine;
@@ -191,7 +191,7 @@ impl Session {
 
     /// Begins a line after a prompt, which is given without styles and with them, with these texts before and after the cursor.
     fn try_begin(&mut self, prompt: (&str, &str), initial: (&str, &str)) -> Result<Fed>
-        ensures begins { BeginsReading answers (bound self.old.commands) prompt.entry.0.now
+        ensures begins { BeginsReading answers_by (bound self.old.commands) prompt.entry.0.now
             initial.entry.0.now initial.entry.1.now self.old.editor self.new.editor result }
         ensures stays { self.new ≡ with_editor self.new.editor self.old }
     {
@@ -201,7 +201,7 @@ impl Session {
 
     /// Has the editor read what is heard of the terminal.
     fn try_hear(&mut self, heard: Heard<'_>) -> Result<Fed>
-        ensures feeds { Feeds answers (bound self.old.commands)
+        ensures feeds { Feeds answers_by (bound self.old.commands)
             (turn_of heard.entry self.old.editor.decoder) self.old.editor self.new.editor result }
         ensures stays { self.new ≡ with_editor self.new.editor self.old }
     {
@@ -212,7 +212,7 @@ impl Session {
     /// Returns the status of what became of a line, and keeps the text of one that was submitted.
     fn tell(&mut self, fed: Result<Fed>) -> Status
         requires { FaultsOnly fed }
-        ensures { Tells fed self.old self.new result }
+        ensures { TellsStatus fed self.old self.new result }
     {
         match fed {
             Ok(Fed::More) if self.editor.is_suspended() => Status::Suspended,
@@ -232,7 +232,7 @@ impl Session {
     /// Returns `Done`; `BadSetting`, where there are no columns, and nothing changes; or `NoMemory` or `Failed`: columns and rows are the
     /// new ones then, and the line is drawn at the next call.
     pub fn resize(&mut self, columns: Unit, rows: Unit) -> Status
-        ensures { ResizesTo answers columns rows self.old self.new result }
+        ensures { ResizesSession answers_by columns rows self.old self.new result }
     {
         if columns == 0 {
             return Status::BadSetting;
@@ -356,7 +356,7 @@ impl Session {
     /// Takes bytes of the text that `save_history` made into `buffer`, as many as there are and it has room for. Returns how many: none
     /// where all were taken.
     pub fn take_saved(&mut self, buffer: &mut [u8]) -> usize
-        ensures takes { Takes self.old.saved self.new.saved buffer.old buffer.new result }
+        ensures takes { TakesBytes self.old.saved self.new.saved buffer.old buffer.new result }
         ensures stays { self.new ≡ record self.old { saved = self.new.saved } }
     {
         self.saved.take(buffer)

@@ -1,7 +1,7 @@
 //! How a call of a session ended.
 ghost use Rattle.std.specs.Prelude.{◌≡◌, true, OnErr, OnOk};
 ghost use Rattle.line_config.specs.Error.{FaultsOnly, is_fault, is_memory};
-ghost use Rattle.line_host.specs.Status.{IsFault, code_of};
+ghost use Rattle.line_host.specs.Status.{ReportsFault, code_of};
 
 use line_config::{ReadlineError, Result};
 use std::io::ErrorKind;
@@ -55,7 +55,7 @@ impl Status {
     pub(crate) fn of<T: Drop>(done: Result<T>) -> Status
         requires { FaultsOnly done }
         ensures done { OnOk done (result ≡ Status.Done) }
-        ensures fault { OnErr done (IsFault result) }
+        ensures fault { OnErr done (ReportsFault result) }
     {
         match done {
             Ok(_) => Status::Done,
@@ -65,7 +65,7 @@ impl Status {
 
     /// Returns the status of an error: a stream that wants memory is a want of memory.
     pub(crate) fn of_error(error: ReadlineError) -> Status
-        ensures fault { is_fault error ≡ true → IsFault result }
+        ensures fault { is_fault error ≡ true → ReportsFault result }
         ensures memory { is_memory error ≡ true → result ≡ Status.NoMemory }
     {
         match error {

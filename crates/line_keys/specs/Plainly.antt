@@ -16,8 +16,8 @@ has_highlighting environment display line kind =
     && (display.lit || environment.lights line.text line.cursor kind)
 
 -- the line is printable ASCII and newlines; there is no hint, and no text was drawn after the line
-abbrev pub is_bare : Display → Draft → Bool
-is_bare display draft =
+abbrev pub is_bare_line : Display → Draft → Bool
+is_bare_line display draft =
     list_all is_plain draft.line.text && not (is_some draft.hint) && not display.layout.has_info
 
 -- what is left of a line has no hint, and there is no highlighting
@@ -29,7 +29,7 @@ leaves_bare environment display left =
 abbrev pub takes_char : Display → Draft → ℕ → Bool
 takes_char display draft c =
     is_printable c && is_at_end draft.line && nat_lt (display.layout.cursor.col + 1) display.surface.columns
-    && is_bare display draft
+    && is_bare_line display draft
 
 -- the text of a line from a place on can be cleared plainly: printable ASCII on the row of the kept cursor and end, for which both have
 -- the columns
@@ -39,7 +39,7 @@ gives_end display draft from =
     && (display.layout.cursor.row == display.layout.end.row)
     && nat_le (draft.line.cursor - from) display.layout.cursor.col
     && nat_le (length draft.line.text - from) display.layout.end.col
-    && is_bare display draft
+    && is_bare_line display draft
 
 -- plain typing: a line takes a character plainly, and what is left has no hint and no highlighting
 abbrev pub types_plainly : Environment → Display → Draft → Draft → ℕ → Bool

@@ -42,6 +42,6 @@ unfoldable pub measured : ℕ → List ℕ → Position → Position
 measured columns text origin = wrapped columns (fold (after_cluster columns) origin (graphemes true text))
 
 -- the text is printable ASCII and newlines, begins at a column of a row, and ends there
-abbrev pub EndsPlain : ℕ → List ℕ → Position → Position → Type 0
-EndsPlain columns text origin end =
+abbrev pub PlainTextEndsAt : ℕ → List ℕ → Position → Position → Type 0
+PlainTextEndsAt columns text origin end =
     (list_all is_plain text ≡ true) × (origin.col < columns) × (end ≡ measured columns text origin)

@@ -19,7 +19,7 @@ use Rattle.line_buffer.specs.Cluster.{PartsClusters}
 use Rattle.line_buffer.specs.Printable.{is_plain, is_printable}
 use Rattle.line_keys.specs.Display.{columns_back, next_column}
 use Rattle.line_state.proofs.PlainTextLemmas.{all_both, all_parts, measured_back, plain_char, plain_text, taken_between}
-use Rattle.line_screen.specs.Measure.{EndsPlain, ends_row, columns_of, start_below, advanced, after_cluster, wrapped, measured, columns_after}
+use Rattle.line_screen.specs.Measure.{PlainTextEndsAt, ends_row, columns_of, start_below, advanced, after_cluster, wrapped, measured, columns_after}
 
 -- ---- no position stands past the columns
 
@@ -239,13 +239,13 @@ measured-one columns c place room print =
 
 -- an empty text ends where it begins
 pub EndsPlain-nil : (columns : ℕ) (text : List ℕ) (origin end : Position) → text ≡ [] → origin.col < columns → end ≡ origin
-    → EndsPlain columns text origin end
+    → PlainTextEndsAt columns text origin end
 EndsPlain-nil columns text origin end empty h is =
     rw (empty, is) (refl, h, sym (measured-nil columns origin h))
 
 -- a printable text after it goes on from its end
-pub EndsPlain-append : (columns : ℕ) (text more : List ℕ) (origin end : Position) → EndsPlain columns text origin end
-    → list_all is_printable more ≡ true → EndsPlain columns (text ++ more) origin (measured columns more end)
+pub EndsPlain-append : (columns : ℕ) (text more : List ℕ) (origin end : Position) → PlainTextEndsAt columns text origin end
+    → list_all is_printable more ≡ true → PlainTextEndsAt columns (text ++ more) origin (measured columns more end)
 EndsPlain-append columns text more origin end known print = (
   all_both is_plain text more known.0 (plain_text more print),
   known.1,
@@ -253,9 +253,9 @@ EndsPlain-append columns text more origin end known print = (
 )
 
 -- without the printable text at its end it ends as many columns back
-pub EndsPlain-take : (columns kept count : ℕ) (text gone : List ℕ) (origin end : Position) → EndsPlain columns text origin end
+pub EndsPlain-take : (columns kept count : ℕ) (text gone : List ℕ) (origin end : Position) → PlainTextEndsAt columns text origin end
     → gone ≡ slice_range text kept (length text) → kept ≤ length text → length gone ≡ count → list_all is_printable gone ≡ true
-    → count ≤ end.col → EndsPlain columns (take kept text) origin (columns_back count end)
+    → count ≤ end.col → PlainTextEndsAt columns (take kept text) origin (columns_back count end)
 EndsPlain-take columns kept count text gone origin end known is within counts print fits =
     let parts : take kept text ++ gone ≡ text =
     ap (λ (s : List ℕ). take kept text ++ s) is ∙ taken_between kept (length text) text within ∙ take_all (length text) text (omega arith) in

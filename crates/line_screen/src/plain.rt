@@ -6,7 +6,7 @@ ghost use Rattle.line_config.specs.Error.{MemoryOnly, max_count};
 ghost use Rattle.line_buffer.specs.Printable.{is_plain, is_printable};
 ghost use Rattle.line_buffer.specs.declared.layout.GraphemeClusterMode.TheVariants.{Unicode};
 ghost use Rattle.line_state.specs.ScreenState.{EndsBehind, HasRoom, Tries, shown_by, with_shown};
-ghost use Rattle.line_screen.specs.Measure.{EndsPlain, measured};
+ghost use Rattle.line_screen.specs.Measure.{PlainTextEndsAt, measured};
 ghost use Rattle.line_screen.specs.Cleared.{Clears, KeepsCounts, LosesEnd, blank_screen};
 
 use crate::measure::{measured, measured_line};
@@ -39,7 +39,7 @@ pub struct Plain<R: RawReader> {
     failures: u64,
     reader: PhantomData<R>,
     ghost some_columns: { 0 < columns },
-    ghost ends: { ForSome end (λ e. EndsPlain columns (string_bytes text) origin e) },
+    ghost ends: { ForSome end (λ e. PlainTextEndsAt columns (string_bytes text) origin e) },
 }
 
 impl<R: RawReader> Drop for Plain<R> {
@@ -169,8 +169,8 @@ impl<R: RawReader> Plain<R> {
     /// the cursor. It looks at `more` alone.
     fn end_with(&self, more: &str, from_cursor: Position) -> Option<Position>
         requires { from_cursor ≡ measured self.now.columns more.now self.now.place }
-        ensures { IfSome result (λ e.
-            EndsPlain self.now.columns (string_bytes self.now.text ++ more.now) self.now.origin e) }
+        ensures { IfSome result (λ e. PlainTextEndsAt self.now.columns
+            (string_bytes self.now.text ++ more.now) self.now.origin e) }
     {
         let end = self.end?;
         if !is_printable_text(more) {
@@ -198,8 +198,8 @@ impl<R: RawReader> Plain<R> {
     /// where the text has more than printable ASCII and newlines.
     fn end_of_first(&self, kept: usize, end: Position) -> Option<Position>
         requires { end ≡ measured self.now.columns (string_bytes self.now.text) self.now.origin }
-        ensures { IfSome result (λ e.
-            EndsPlain self.now.columns (take kept (string_bytes self.now.text)) self.now.origin e) }
+        ensures { IfSome result (λ e. PlainTextEndsAt self.now.columns
+            (take kept (string_bytes self.now.text)) self.now.origin e) }
     {
         let gone = self.text.as_str().get(kept..)?;
         let columns = Unit::try_from(gone.len()).ok()?;

@@ -27,7 +27,7 @@ status_of (Ok BadScript) = 4
 status_of (Err _) = 3
 
 -- what is reported of a state: its line with the cursor, its history index, the kept cursor, and the full redraws
-pub record Reports {X : Type 0} (e : Ghosts X) (state : X) (report : Report) : Type 0 where
+pub record ReportsState {X : Type 0} (e : Ghosts X) (state : X) (report : Report) : Type 0 where
   pub line : report.line.now ≡ (e.draft state).line.text
   pub cursor : report.cursor ≡ (e.draft state).line.cursor
   pub place : report.place ≡ (e.draft state).index

@@ -34,7 +34,7 @@ AddsPasted (Ok false) escaped old new = new ≡ old
 AddsPasted (Err _) escaped old new = new ≡ old
 
 -- an escaped text that is taken: what it stands for is handed to the history; else, and after an error, the history stays
-abbrev pub AddsLine : Result Bool ReadlineError → List ℕ → FiledHistory → FiledHistory → Type 0
-AddsLine (Ok true) escaped old new = (line : List ℕ) × Unescapes V2 escaped line × (new ≡ filed old line)
-AddsLine (Ok false) escaped old new = new ≡ old
-AddsLine (Err _) escaped old new = new ≡ old
+abbrev pub AddsToHistory : Result Bool ReadlineError → List ℕ → FiledHistory → FiledHistory → Type 0
+AddsToHistory (Ok true) escaped old new = (line : List ℕ) × Unescapes V2 escaped line × (new ≡ filed old line)
+AddsToHistory (Ok false) escaped old new = new ≡ old
+AddsToHistory (Err _) escaped old new = new ≡ old

@@ -2,7 +2,7 @@
 #![tactic(auto)]
 
 ghost use Rattle.std.specs.Prelude.{◌≡◌, ◌≤◌};
-ghost use Rattle.line_script.specs.Outcome.{Reports};
+ghost use Rattle.line_script.specs.Outcome.{ReportsState};
 
 pub mod complaint;
 pub mod report;
@@ -147,7 +147,7 @@ fn report_of<'s, 'out, 'prompt, R: RawReader, H: Helper, P: Prompt, S: History>(
     outcome: Outcome,
 ) -> Report<'s>
     ensures outcome { result.outcome ≡ outcome }
-    ensures reports { Reports ⟦<State<'out, 'prompt, Plain<R>, H, P, S> as EditorState>⟧
+    ensures reports { ReportsState ⟦<State<'out, 'prompt, Plain<R>, H, P, S> as EditorState>⟧
         state.now result }
 {
     Report {

@@ -2,7 +2,7 @@
 ghost use Rattle.std.specs.Prelude.{◌≡◌, ◌<◌, IfOk, IfSome, string_bytes};
 ghost use Rattle.line_parts.specs.EscapedLine.{Unescapes};
 ghost use Rattle.line_parts.specs.declared.escaped_line.Escapes.TheVariants.{V2};
-ghost use Rattle.line_script.specs.Script.{AddsKey, AddsLine, AddsPasted, AddsTyped, lacks_escapes};
+ghost use Rattle.line_script.specs.Script.{AddsKey, AddsToHistory, AddsPasted, AddsTyped, lacks_escapes};
 
 use line_buffer::Unit;
 use line_config::{EditMode, ReadlineError};
@@ -211,7 +211,7 @@ fn switch_on(name: &str, helper: &mut HintsAndBrackets) -> bool {
 
 /// Adds the text to the history, which may leave it out. False where an escape is bad.
 fn push_history(alloc: Global, text: &str, history: &mut FileHistory) -> Result<bool, ReadlineError>
-    ensures { AddsLine result text.now history.old history.new }
+    ensures { AddsToHistory result text.now history.old history.new }
 {
     let Some(line) = unescape(alloc, text)? else {
         return Ok(false);

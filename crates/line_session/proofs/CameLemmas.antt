@@ -19,11 +19,11 @@ use Rattle.line_editor.specs.Input.{first_input}
 use Rattle.line_editor.specs.declared.run.Turned.{Turned}
 use Rattle.line_editor.specs.declared.run.Turned.TheVariants as turned
 use Rattle.line_term.specs.Decoder as decoding
-use Rattle.line_term.specs.Decoder.{Gives}
+use Rattle.line_term.specs.Decoder.{Enqueues}
 use Rattle.line_session.specs.Heard.{Feeds}
-use Rattle.line_session.specs.Sitting.{BeginsOrStays, BegunLine, Came, CameBegun, CameFrom, EndsAs, Keeps, LosesNothing, Sitting, StartsWith, begun_with, goes_on, rules_at, rules_for, standing_with, with_turn}
-use Rattle.line_session.specs.Steps.{Ends, Rules, Standing, starting}
-use Rattle.line_session.specs.Taken.{ComesTo}
+use Rattle.line_session.specs.Sitting.{BeginsOrStays, BegunLine, Came, CameBegun, CameFrom, LineEndsAs, Keeps, LosesNothing, Sitting, StartsWith, begun_with, line_goes_on, rules_at, rules_for, standing_with, with_turn}
+use Rattle.line_session.specs.Steps.{StepsEnd, Rules, Standing, starting}
+use Rattle.line_session.specs.Taken.{TurnsComeTo}
 use Rattle.line_session.specs.declared.editor.Fed.{Fed}
 use Rattle.line_session.specs.declared.editor.Fed.TheVariants as fed
 use Rattle.line_session.specs.declared.mode.Mode.TheVariants.{Editing}
@@ -54,15 +54,15 @@ module _ {H : Type 0} where
   -- what came of a line whose last command is known, and which ended as it says
   pub came_of : (by : Rules) (start : Standing) (old mid new : Sitting H) (left : BegunLine) (done : Result Turned ReadlineError) (f : Fed)
       → mid.line ≡ Some left → left.kept.drawing.prompt_end.col ≡ by.ruler.prompt_column → mid.lines ≡ old.lines → mid.takes ≡ old.takes → mid.settings ≡ old.settings
-      → IfOk done (ComesTo (not left.draws) by start (standing_with left.kept.draft left.input left.mode mid.items mid.kills)) → EndsAs done mid new f
+      → IfOk done (TurnsComeTo (not left.draws) by start (standing_with left.kept.draft left.input left.mode mid.items mid.kills)) → LineEndsAs done mid new f
       → CameFrom by false start old new f
   came_of by start old mid new left done f line column lines takes settings comes ends =
       came_alike by by false start start mid old new refl refl lines takes settings f (by_fed f done comes ends)
     where
       Comes : Result Turned ReadlineError → Type 0
-      Comes done = IfOk done (ComesTo (not left.draws) by start (standing_with left.kept.draft left.input left.mode mid.items mid.kills))
+      Comes done = IfOk done (TurnsComeTo (not left.draws) by start (standing_with left.kept.draft left.input left.mode mid.items mid.kills))
 
-      goes : (done : Result Turned ReadlineError) → Comes done → goes_on done ≡ true → CameFrom by false start mid mid fed.More
+      goes : (done : Result Turned ReadlineError) → Comes done → line_goes_on done ≡ true → CameFrom by false start mid mid fed.More
       goes (Ok turned.Proceeds) comes on = absurd comes
       goes (Ok turned.NeedsMore) comes on =
           (record { left = left; line = line; waits = comes.waits; drawn = λ yes. comes.drawn (ap (λ b. not b) yes); column = column }, refl)
@@ -71,11 +71,11 @@ module _ {H : Type 0} where
       goes (Ok turned.Interrupted) comes on = absurd (cc)
       goes (Err error) comes on = absurd (cc)
 
-      by_fed : (f : Fed) (done : Result Turned ReadlineError) → Comes done → EndsAs done mid new f → CameFrom by false start mid new f
+      by_fed : (f : Fed) (done : Result Turned ReadlineError) → Comes done → LineEndsAs done mid new f → CameFrom by false start mid new f
       by_fed fed.More done comes ends = subst (λ n. CameFrom by false start mid n fed.More) (sym ends.1) (goes done comes ends.0)
       by_fed (fed.Submitted text) done comes ends =
           let P : Sitting H → Type 0 = λ n. CameFrom by false start mid n (fed.Submitted text) in
-          let there : Ends by false start (standing_with left.kept.draft left.input left.mode mid.items mid.kills) submitted = subst (λ d. Comes d) ends.0 comes in
+          let there : StepsEnd by false start (standing_with left.kept.draft left.input left.mode mid.items mid.kills) submitted = subst (λ d. Comes d) ends.0 comes in
           let texts : Some (string_bytes text) ≡ Some left.kept.draft.line.text = ends.1 ∙ ap (λ o. option_map (λ (b : BegunLine). b.kept.draft.line.text) o) line in
           let here : P (record mid {
             line = None;
@@ -88,13 +88,13 @@ module _ {H : Type 0} where
           subst P (sym ends.2) here
       by_fed fed.Ended done comes ends =
           let P : Sitting H → Type 0 = λ n. CameFrom by false start mid n fed.Ended in
-          let there : Ends by false start (standing_with left.kept.draft left.input left.mode mid.items mid.kills) ended = subst (λ d. Comes d) ends.0 comes in
+          let there : StepsEnd by false start (standing_with left.kept.draft left.input left.mode mid.items mid.kills) ended = subst (λ d. Comes d) ends.0 comes in
           let here : P (record mid { line = None }) =
           (record { end = standing_with left.kept.draft left.input left.mode mid.items mid.kills; ends = there; gone = refl; kills = refl; items = refl }, refl) in
           subst P (sym ends.1) here
       by_fed fed.Interrupted done comes ends =
           let P : Sitting H → Type 0 = λ n. CameFrom by false start mid n fed.Interrupted in
-          let there : Ends by false start (standing_with left.kept.draft left.input left.mode mid.items mid.kills) interrupted = subst (λ d. Comes d) ends.0 comes in
+          let there : StepsEnd by false start (standing_with left.kept.draft left.input left.mode mid.items mid.kills) interrupted = subst (λ d. Comes d) ends.0 comes in
           let here : P (record mid { line = None }) =
           (record { end = standing_with left.kept.draft left.input left.mode mid.items mid.kills; ends = there; gone = refl; kills = refl; items = refl }, refl) in
           subst P (sym ends.1) here
@@ -141,9 +141,9 @@ module _ {H : Type 0} where
 
     -- what came of the line that had begun, of which this is left before it ends
     pub came_so : (bound : Bound) (old mid new : Sitting H) (begun left : BegunLine) (done : Result Turned ReadlineError) (result : Result Fed ReadlineError)
-        → IfOk result (EndsAs done mid new)
+        → IfOk result (LineEndsAs done mid new)
         → mid.line ≡ Some left → left.kept.drawing.prompt_end ≡ begun.kept.drawing.prompt_end → mid.lines ≡ old.lines → mid.takes ≡ old.takes → mid.settings ≡ old.settings
-        → IfOk done (ComesTo (not left.draws) (rules_at answers bound old begun.kept.drawing.prompt_end.col)
+        → IfOk done (TurnsComeTo (not left.draws) (rules_at answers bound old begun.kept.drawing.prompt_end.col)
         (starting (answers old.helper old.lines) begun.draws (standing_with begun.kept.draft begun.input begun.mode old.items old.kills))
         (standing_with left.kept.draft left.input left.mode mid.items mid.kills))
         → IfOk result (Came answers bound old begun new)
@@ -208,26 +208,26 @@ module _ {H : Type 0} where
     kept_so old mid new (Err error) first next = tt
 
     -- what came of them
-    fed_so : (bound : Bound) (old mid new : Sitting H) (turn : decoding.Turn) (result : Result Fed ReadlineError) → mid ≡ with_turn turn old
+    fed_so : (bound : Bound) (old mid new : Sitting H) (turn : decoding.DecoderTurn) (result : Result Fed ReadlineError) → mid ≡ with_turn turn old
         → ((begun : BegunLine) → mid.line ≡ Some begun → IfOk result (Came answers bound mid begun new))
         → (begun : BegunLine) → old.line ≡ Some begun → IfOk result (Came answers bound (with_turn turn old) begun new)
     fed_so bound old mid new turn result same came =
         subst (λ (m : Sitting H). (begun : BegunLine) → m.line ≡ Some begun → IfOk result (Came answers bound m begun new)) same came
 
-    fed_kept : (old mid new : Sitting H) (turn : decoding.Turn) (result : Result Fed ReadlineError) → mid ≡ with_turn turn old → Keeps answers mid new
+    fed_kept : (old mid new : Sitting H) (turn : decoding.DecoderTurn) (result : Result Fed ReadlineError) → mid ≡ with_turn turn old → Keeps answers mid new
         → OnOk result (Keeps answers (with_turn turn old) new)
     fed_kept old mid new turn (Ok f) same keeps = subst (λ m. Keeps answers m new) same keeps
     fed_kept old mid new turn (Err error) same keeps = tt
 
 -- nothing comes of a turn of the bytes where no line has begun
-fed_idle : {H : Type 0} (old mid new : Sitting H) (turn : decoding.Turn) (result : Result Fed ReadlineError) → mid ≡ with_turn turn old
+fed_idle : {H : Type 0} (old mid new : Sitting H) (turn : decoding.DecoderTurn) (result : Result Fed ReadlineError) → mid ≡ with_turn turn old
     → (mid.line ≡ None → IfOk result (λ f. (f ≡ fed.More) × (new ≡ mid)))
     → old.line ≡ None → IfOk result (λ f. (f ≡ fed.More) × (new ≡ with_turn turn old))
 fed_idle {H} old mid new turn result same idle =
     subst (λ (m : Sitting H). m.line ≡ None → IfOk result (λ f. (f ≡ fed.More) × (new ≡ m))) same idle
 
 -- and nothing is lost after a fault
-fed_left : {H : Type 0} (old mid new : Sitting H) (turn : decoding.Turn) (result : Result Fed ReadlineError) → mid ≡ with_turn turn old
+fed_left : {H : Type 0} (old mid new : Sitting H) (turn : decoding.DecoderTurn) (result : Result Fed ReadlineError) → mid ≡ with_turn turn old
     → OnErr result (LosesNothing mid new) → OnErr result (LosesNothing old new)
 fed_left old mid new turn (Ok f) same left = tt
 fed_left {H} old mid new turn (Err error) same left = record {
@@ -236,7 +236,7 @@ fed_left {H} old mid new turn (Err error) same left = record {
 }
 
 -- what a call leaves that reads the terminal, by the turns that it takes
-pub feeds_so : {H : Type 0} (answers : H → List (List ℕ) → Environment) (bound : Bound) (old mid new : Sitting H) (turn : decoding.Turn) (result : Result Fed ReadlineError)
+pub feeds_so : {H : Type 0} (answers : H → List (List ℕ) → Environment) (bound : Bound) (old mid new : Sitting H) (turn : decoding.DecoderTurn) (result : Result Fed ReadlineError)
     → mid ≡ with_turn turn old → ((begun : BegunLine) → mid.line ≡ Some begun → IfOk result (Came answers bound mid begun new)) → Keeps answers mid new
     → (mid.line ≡ None → IfOk result (λ f. (f ≡ fed.More) × (new ≡ mid))) → OnErr result (LosesNothing mid new) → FaultsOnly result
     → Feeds answers bound turn old new result
@@ -249,7 +249,7 @@ feeds_so answers bound old mid new turn result same came keeps idle left faults 
 }
 
 -- the items of a turn were appended to those of a line
-pub turn_so : {H : Type 0} (old mid : Sitting H) (turn : decoding.Turn) (left : decoding.Standing) (before after : Queued) (result : Result (Unit {0}) ReadlineError) → OnOk result (Gives turn left before after)
+pub turn_so : {H : Type 0} (old mid : Sitting H) (turn : decoding.DecoderTurn) (left : decoding.DecoderState) (before after : Queued) (result : Result (Unit {0}) ReadlineError) → OnOk result (Enqueues turn left before after)
     → mid ≡ record old { items = after.rest; binds = after.binds; decoder = left } → old.items ≡ before.rest → old.binds ≡ before.binds
     → OnOk result (mid ≡ with_turn turn old)
 turn_so old mid turn left before after (Ok done) gives is items binds =

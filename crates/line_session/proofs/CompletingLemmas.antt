@@ -17,7 +17,7 @@ use Rattle.line_parts.specs.declared.completion.Candidate as candidates
 use Rattle.line_parts.specs.declared.completion.pair.Pair.{Pair}
 use Rattle.line_editor.specs.Completing.{ComesIn, IsOffered}
 use Rattle.line_editor.specs.Editor.{edited_of, with_edited}
-use Rattle.line_session.specs.Completing.{Agree, BeginsCompletion, ByCandidates, ByType, Elects, GoesOnTo, Lists, ListsPage, PutsInCommon, Shows, before_shown, replacement_of}
+use Rattle.line_session.specs.Completing.{Agree, BeginsCompletion, ByCandidates, ByType, Elects, GoesOnTo, Lists, ListsPage, PutsInCommon, ShowsCandidate, before_shown, replacement_of}
 use Rattle.line_session.specs.declared.completing.Completing.{Completing}
 use Rattle.line_session.specs.declared.listing.Listing.{Listing}
 use Rattle.line_session.specs.declared.mode.Mode.{Mode}
@@ -56,7 +56,7 @@ agree_there w start candidates text old cursor puts common here is fails = recor
 
 -- a candidate was shown in place of another
 pub goes_so : (w w' : Environment) (going : Completing) (index : ℕ) (candidate : Option Pair) (grown : Bool) (old bare new : Draft) → w' ≡ w → bare ≡ before_shown going old
-    → candidate ≡ slice_get going.candidates.items index → Shows w' going.start candidate grown bare new
+    → candidate ≡ slice_get going.candidates.items index → ShowsCandidate w' going.start candidate grown bare new
     → GoesOnTo w going index old new (modes.Completing (record { start = going.start; candidates = going.candidates; shown = index; grown = grown }))
 goes_so w w' going index candidate grown old bare new same back at shows = record {
   next = record { start = going.start; candidates = going.candidates; shown = index; grown = grown };
@@ -65,8 +65,8 @@ goes_so w w' going index candidate grown old bare new same back at shows = recor
   candidates = refl;
   index_is = refl;
   shows =
-      subst (λ x. Shows x going.start (slice_get going.candidates.items index) grown (before_shown going old) new) same
-      (subst (λ c. Shows w' going.start c grown (before_shown going old) new) at (subst (λ d. Shows w' going.start candidate grown d new) back shows));
+      subst (λ x. ShowsCandidate x going.start (slice_get going.candidates.items index) grown (before_shown going old) new) same
+      (subst (λ c. ShowsCandidate w' going.start c grown (before_shown going old) new) at (subst (λ d. ShowsCandidate w' going.start candidate grown d new) back shows));
 }
 
 -- what is looked up of candidates by an index

@@ -24,9 +24,9 @@ use Rattle.line_editor.specs.Step.{step}
 use Rattle.line_editor.specs.declared.run.Turned.{Turned}
 use Rattle.line_editor.specs.declared.run.Turned.TheVariants as turned
 use Rattle.line_editor.proofs.DrawnLemmas.{frame_then}
-use Rattle.line_session.specs.Steps.{DoesItem, Ends, ItemTaken, NoneComesIn, Rules, Steps, TurnFrom, as_it_is, character_of, comes_in, reads_no_command, typing}
+use Rattle.line_session.specs.Steps.{DoesItem, StepsEnd, ItemTaken, NoneComesIn, Rules, Steps, TurnFrom, as_it_is, character_of, comes_in, reads_no_command, typing}
 use Rattle.line_session.specs.Steps as steps
-use Rattle.line_session.specs.Taken.{ComesTo, DrawnBehind, DrawnOnce, IsShown, IsShownIn, IsShownWith, KeepsRules, PutsIn, TakesItem, TakesOne, WaitsBehind, is_settled, rules_by, rules_of, standing_of}
+use Rattle.line_session.specs.Taken.{TurnsComeTo, DrawnBehind, DrawnOnce, IsLineShown, IsShownIn, IsShownWith, KeepsRules, PutsIn, TakesItem, TakesOne, WaitsBehind, is_settled, rules_by, session_rules, standing_of}
 use Rattle.line_session.specs.declared.mode.Mode.{Mode}
 use Rattle.line_session.specs.declared.mode.Mode.TheVariants as modes
 use Rattle.line_session.proofs.DrawLemmas.{drawn_or_kept, line_by, shown_by}
@@ -51,7 +51,7 @@ as_it_is_proceeds (key typed) ruler environment input editor = typing_proceeds (
 as_it_is_proceeds (paste text) ruler environment input editor = refl
 
 module _ {X : Type 0} (e : editors.Ghosts X) (old new : X) (input : Input) (settings : Settings) (kills reset kills' : Ring) (item : Item) (command : Command) (answer : Answer)
-    (is : command ≡ as_it_is item) (was_reset : reset ≡ with_last kills rings.other) (shown : IsShown e old) (done : Executed e old input settings.indent_size reset command new kills' answer) where
+    (is : command ≡ as_it_is item) (was_reset : reset ≡ with_last kills rings.other) (shown : IsLineShown e old) (done : Executed e old input settings.indent_size reset command new kills' answer) where
   proceeded : answer ≡ proceeds
   proceeded = sym done.steps.answered
       ∙ ap (λ c. (step (ruler_of (e.display old) settings.indent_size) (e.environment old) input (record { draft = e.draft old; kills = reset }) c).answer) is
@@ -69,7 +69,7 @@ module _ {X : Type 0} (e : editors.Ghosts X) (old new : X) (input : Input) (sett
   }
 
   -- and the line is shown
-  pub shows_so : IsShown e new
+  pub shows_so : IsLineShown e new
   shows_so =
       let drawn : DrawnAfter e proceeds old new = subst (λ a. DrawnAfter e a old new) proceeded done.drawn in
       shown_by e new (drawn.right shown.right) (drawn.line (line_by e old shown))
@@ -78,7 +78,7 @@ module _ {X Y : Type 0} (e : editors.Ghosts X) (r : readers.Ghosts Y) (settings 
   module _ (first : Mode) (start : Session X Y) where
     -- turns are being taken: steps lead here, and the line is shown
     pub record Going (mode : Mode) (now : Session X Y) : Type 0 where
-      pub steps : Steps (rules_of e r settings start) false (standing_of e r first start) (standing_of e r mode now)
+      pub steps : Steps (session_rules e r settings start) false (standing_of e r first start) (standing_of e r mode now)
       pub keeps : KeepsRules e r start now
       pub shown : IsShownWith e mode (r.rest now.reader) now.state
 
@@ -96,7 +96,7 @@ module _ {X Y : Type 0} (e : editors.Ghosts X) (r : readers.Ghosts Y) (settings 
 
     module _ (mode : Mode) (now : Session X Y) (going : Going mode now) where
       -- commands are read and executed by the same all the way
-      same_rules : rules_of e r settings now ≡ rules_of e r settings start
+      same_rules : session_rules e r settings now ≡ session_rules e r settings start
       same_rules =
           ap (λ b. rules_by e (record { bound = b; own = r.own_binding (r.kept now.reader) }) settings now.state) going.keeps.bound
           ∙ ap (λ o. rules_by e (record { bound = start.keys.bound; own = o }) settings now.state) going.keeps.own
@@ -106,7 +106,7 @@ module _ {X Y : Type 0} (e : editors.Ghosts X) (r : readers.Ghosts Y) (settings 
       pub marked : (reader : Y) → r.rest reader ≡ r.rest now.reader → r.own_binding (r.kept reader) ≡ r.own_binding (r.kept now.reader)
           → Going mode (session now.state now.keys reader now.kills)
       marked reader rest own =
-          let P : List Item → Type 0 = λ items. Steps (rules_of e r settings start) false (standing_of e r first start)
+          let P : List Item → Type 0 = λ items. Steps (session_rules e r settings start) false (standing_of e r first start)
           (record { editor = editor_of e now.state now.kills; input = now.keys.input; items = items; mode = mode }) in
           record {
             steps = subst P (sym rest) going.steps;
@@ -121,7 +121,7 @@ module _ {X Y : Type 0} (e : editors.Ghosts X) (r : readers.Ghosts Y) (settings 
           → Going next (session state now.keys reader kills)
       takes_on next item state reader kills takes shown frame cut comes own =
           let P : Rules → Type 0 = λ by. ItemTaken by (standing_of e r mode now) (standing_of e r next (session state now.keys reader kills)) in
-          let here : P (rules_of e r settings now) = record { item = item; comes = comes; cut = cut; input = refl; does = does_item mode takes } in
+          let here : P (session_rules e r settings now) = record { item = item; comes = comes; cut = cut; input = refl; does = does_item mode takes } in
           record {
             steps = steps.item going.steps (subst P same_rules here);
             keeps = record {
@@ -133,7 +133,7 @@ module _ {X Y : Type 0} (e : editors.Ghosts X) (r : readers.Ghosts Y) (settings 
           }
         where
           does_item : (m : Mode) → TakesItem e settings now.keys.input m item now.state now.kills state kills next
-              → DoesItem (rules_of e r settings now) now.keys.input m item (editor_of e now.state now.kills) (editor_of e state kills) next
+              → DoesItem (session_rules e r settings now) now.keys.input m item (editor_of e now.state now.kills) (editor_of e state kills) next
           does_item modes.Editing takes = takes
           does_item modes.Quoting takes = takes
           does_item (modes.Completing going) takes = takes
@@ -147,7 +147,7 @@ module _ {X Y : Type 0} (e : editors.Ghosts X) (r : readers.Ghosts Y) (settings 
 
       -- no item is read as part of a command, and none is taken by itself
       pub waits_alone : reads_no_command mode ≡ true → NoneComesIn mode (r.rest now.reader)
-          → WaitsBehind (is_settled mode (e.display now.state).layout.default_prompt) (rules_of e r settings start) (standing_of e r first start) (standing_of e r mode now)
+          → WaitsBehind (is_settled mode (e.display now.state).layout.default_prompt) (session_rules e r settings start) (standing_of e r first start) (standing_of e r mode now)
       waits_alone takes none = record {
         waits = record {
           found = standing_of e r mode now;
@@ -181,14 +181,14 @@ module _ {X Y : Type 0} (e : editors.Ghosts X) (r : readers.Ghosts Y) (settings 
 
         -- the items are no phrase yet, and are to be read again
         waits_in : (reader : Y) → reads_no_command mode ≡ false → r.rest reader ≡ r.rest now.reader → NeedsMoreItems e r now next
-            → WaitsBehind (is_settled mode (e.display next.state).layout.default_prompt) (rules_of e r settings start) (standing_of e r first start)
+            → WaitsBehind (is_settled mode (e.display next.state).layout.default_prompt) (session_rules e r settings start) (standing_of e r first start)
             (standing_of e r mode (session next.state next.keys reader next.kills))
         waits_in reader reads again dry_up =
             let Q : Rules → Type 0 = λ by.
             (begins : IsBeginning by.keymap by.environment (e.draft now.state) now.keys.input (r.rest now.reader))
             × CutShort by.keymap by.environment now.keys.input (r.rest now.reader) begins.shown (editor_of e now.state now.kills) (editor_of e next.state next.kills)
             × (is_settled mode (e.display next.state).layout.default_prompt ≡ false → any_drawn begins.shown ≡ true) in
-            let here : Q (rules_of e r settings now) = (dry_up.out.lacks, record { draft = dry_up.out.draft; kills = dry_up.kills_left }, other_then mode going.shown) in
+            let here : Q (session_rules e r settings now) = (dry_up.out.lacks, record { draft = dry_up.out.draft; kills = dry_up.kills_left }, other_then mode going.shown) in
             let there = subst Q same_rules here in
             record {
               waits = record {
@@ -203,7 +203,7 @@ module _ {X Y : Type 0} (e : editors.Ghosts X) (r : readers.Ghosts Y) (settings 
               drawn = there.2;
             }
           where
-            still : IsShown e now.state → last_drawn dry_up.out.lacks.shown ≡ kept
+            still : IsLineShown e now.state → last_drawn dry_up.out.lacks.shown ≡ kept
                 → Drew e (times_drawn dry_up.out.lacks.shown) (drawing_shown (last_drawn dry_up.out.lacks.shown)) now.state next.state
                 → (e.display next.state).layout.default_prompt ≡ false → any_drawn dry_up.out.lacks.shown ≡ true
             still here last drew other =
@@ -211,7 +211,7 @@ module _ {X Y : Type 0} (e : editors.Ghosts X) (r : readers.Ghosts Y) (settings 
                 let own = ap (λ (d : Display). d.layout.default_prompt) same.display ∙ here.own_prompt in
                 absurd (let two : true ≡ false = sym own ∙ other in cc)
 
-            other_prompt : IsShown e now.state → (e.display next.state).layout.default_prompt ≡ false → any_drawn dry_up.out.lacks.shown ≡ true
+            other_prompt : IsLineShown e now.state → (e.display next.state).layout.default_prompt ≡ false → any_drawn dry_up.out.lacks.shown ≡ true
             other_prompt here other = elim (drawn_or_kept dry_up.out.lacks.shown) [
               | inl drawn ↦ drawn
               | inr last ↦ still here last dry_up.out.drew other
@@ -228,10 +228,10 @@ module _ {X Y : Type 0} (e : editors.Ghosts X) (r : readers.Ghosts Y) (settings 
 
         -- the same in a mode that is equal
         pub waits : (then_ : Mode) (reader : Y) → reads_no_command mode ≡ false → r.rest reader ≡ r.rest now.reader → TakesOne e r settings mode now turned.NeedsMore then_ next
-            → WaitsBehind (is_settled then_ (e.display next.state).layout.default_prompt) (rules_of e r settings start) (standing_of e r first start)
+            → WaitsBehind (is_settled then_ (e.display next.state).layout.default_prompt) (session_rules e r settings start) (standing_of e r first start)
             (standing_of e r then_ (session next.state next.keys reader next.kills))
         waits then_ reader reads again turn =
-            subst (λ m. WaitsBehind (is_settled m (e.display next.state).layout.default_prompt) (rules_of e r settings start) (standing_of e r first start)
+            subst (λ m. WaitsBehind (is_settled m (e.display next.state).layout.default_prompt) (session_rules e r settings start) (standing_of e r first start)
             (standing_of e r m (session next.state next.keys reader next.kills))) (sym turn.1) (waits_in reader reads again turn.0)
 
         -- and this is drawn then
@@ -239,8 +239,8 @@ module _ {X Y : Type 0} (e : editors.Ghosts X) (r : readers.Ghosts Y) (settings 
             → DrawnOnce e then_ (r.rest reader) turned.NeedsMore next.state
         waits_drawn then_ reader again drawn = subst (λ items. DrawnOnce e then_ items turned.NeedsMore next.state) (sym again) drawn
 
-        ends_in : (answer : Answer) (then_ : Mode) → TurnFrom (rules_of e r settings now) (standing_of e r mode now) (standing_of e r then_ next) answer
-            → Ends (rules_of e r settings start) false (standing_of e r first start) (standing_of e r then_ next) answer
+        ends_in : (answer : Answer) (then_ : Mode) → TurnFrom (session_rules e r settings now) (standing_of e r mode now) (standing_of e r then_ next) answer
+            → StepsEnd (session_rules e r settings start) false (standing_of e r first start) (standing_of e r then_ next) answer
         ends_in answer then_ turn = record {
           found = standing_of e r mode now;
           steps = going.steps;
@@ -250,7 +250,7 @@ module _ {X Y : Type 0} (e : editors.Ghosts X) (r : readers.Ghosts Y) (settings 
         -- turns that end otherwise: how they end
         pub stops : (done : Turned) (then_ : Mode) → (done ≡ turned.Proceeds → ⊥) → (done ≡ turned.NeedsMore → ⊥)
             → TakesOne e r settings mode now done then_ next
-            → ComesTo (is_settled then_ (e.display next.state).layout.default_prompt) (rules_of e r settings start) (standing_of e r first start) (standing_of e r then_ next) done
+            → TurnsComeTo (is_settled then_ (e.display next.state).layout.default_prompt) (session_rules e r settings start) (standing_of e r first start) (standing_of e r then_ next) done
         stops turned.Proceeds then_ goes more turn = absurd (goes refl)
         stops turned.Submitted then_ goes more turn = ends_in submitted then_ turn.0
         stops turned.Ended then_ goes more turn = ends_in ended then_ turn.0

@@ -23,10 +23,10 @@ use Rattle.line_editor.specs.Input.{Input}
 use Rattle.line_editor.specs.Released.{KeptDraft}
 use Rattle.line_editor.specs.declared.run.Turned.{Turned}
 use Rattle.line_editor.specs.declared.run.Turned.TheVariants as turned
-use Rattle.line_session.specs.Kept.{Fits, IsShownWithItems, answers_of}
+use Rattle.line_session.specs.Kept.{FitsScreen, IsShownWithItems, answers_of}
 use Rattle.line_session.specs.Sitting.{standing_with}
 use Rattle.line_session.specs.Steps.{Rules, Standing, starting}
-use Rattle.line_session.specs.Taken.{ComesTo, WaitsBehind}
+use Rattle.line_session.specs.Taken.{TurnsComeTo, WaitsBehind}
 use Rattle.line_session.specs.declared.mode.Mode.{Mode}
 use Rattle.line_session.specs.declared.mode.Mode.TheVariants as modes
 
@@ -48,11 +48,11 @@ answers_back hint_at verdict_at lights completer helper lent back w w' lines is 
 
 -- a line that is kept fits what is equal
 pub fits_alike : {A : Type 0} (surface : A → Surface) (screen : A → Screen) (kept : KeptDraft) (mode : Mode) (draws : Bool) (items : List Item) (a b : A) (p p' : List ℕ) (w w' : Environment)
-    → a ≡ b → p ≡ p' → w ≡ w' → Fits kept mode draws items (surface b) (screen b) p' w' → Fits kept mode draws items (surface a) (screen a) p w
+    → a ≡ b → p ≡ p' → w ≡ w' → FitsScreen kept mode draws items (surface b) (screen b) p' w' → FitsScreen kept mode draws items (surface a) (screen a) p w
 fits_alike surface screen kept mode draws items a b p p' w w' same_screen same_prompt same_answers fits =
-    subst (λ x. Fits kept mode draws items (surface a) (screen a) p x) (sym same_answers)
-    (subst (λ x. Fits kept mode draws items (surface a) (screen a) x w') (sym same_prompt)
-    (subst (λ x. Fits kept mode draws items (surface x) (screen x) p' w') (sym same_screen) fits))
+    subst (λ x. FitsScreen kept mode draws items (surface a) (screen a) p x) (sym same_answers)
+    (subst (λ x. FitsScreen kept mode draws items (surface a) (screen a) x w') (sym same_prompt)
+    (subst (λ x. FitsScreen kept mode draws items (surface x) (screen x) p' w') (sym same_screen) fits))
 
 -- those who answer alike with one history answer alike with any
 pub answers_any : {H C : Type 0} (hint_at : H → Shown → Option Suggestion) (verdict_at : H → List ℕ → Verdict) (lights : H → List ℕ → ℕ → CmdKind → Bool) (completer : completers.Ghosts H C)
@@ -68,12 +68,12 @@ on_both P Q one (Err error) same holds then_so = tt
 
 -- turns come to what is equal
 pub comes_alike : (own own' : Bool) (by by' : Rules) (start start' end end' : Standing) → by ≡ by' → start ≡ start' → end ≡ end'
-    → (done : Turned) → (done ≡ turned.NeedsMore → own ≡ own') → ComesTo own by start end done → ComesTo own' by' start' end' done
+    → (done : Turned) → (done ≡ turned.NeedsMore → own ≡ own') → TurnsComeTo own by start end done → TurnsComeTo own' by' start' end' done
 comes_alike own own' by by' start start' end end' same_rules same_start same_end done same_own comes =
     by_done done same_own
-    (subst (λ b. ComesTo own b start' end' done) same_rules (subst (λ s. ComesTo own by s end' done) same_start (subst (λ e. ComesTo own by start e done) same_end comes)))
+    (subst (λ b. TurnsComeTo own b start' end' done) same_rules (subst (λ s. TurnsComeTo own by s end' done) same_start (subst (λ e. TurnsComeTo own by start e done) same_end comes)))
   where
-    by_done : (done : Turned) → (done ≡ turned.NeedsMore → own ≡ own') → ComesTo own by' start' end' done → ComesTo own' by' start' end' done
+    by_done : (done : Turned) → (done ≡ turned.NeedsMore → own ≡ own') → TurnsComeTo own by' start' end' done → TurnsComeTo own' by' start' end' done
     by_done turned.Proceeds same_own comes = comes
     by_done turned.Submitted same_own comes = comes
     by_done turned.Ended same_own comes = comes
@@ -82,10 +82,10 @@ comes_alike own own' by by' start start' end end' same_rules same_start same_end
 
 -- what turns came to of a line that was resumed, as it is kept again
 pub comes_so : {E : Type 0} (own own' : Bool) (by by' : Rules) (start start' end end' : Standing) (one two : Result Turned E)
-    → IfOk one (ComesTo own by start end) → IfOk two (λ done. one ≡ Ok done) → by ≡ by' → start ≡ start' → end ≡ end'
-    → (two ≡ Ok turned.NeedsMore → own ≡ own') → IfOk two (ComesTo own' by' start' end')
+    → IfOk one (TurnsComeTo own by start end) → IfOk two (λ done. one ≡ Ok done) → by ≡ by' → start ≡ start' → end ≡ end'
+    → (two ≡ Ok turned.NeedsMore → own ≡ own') → IfOk two (TurnsComeTo own' by' start' end')
 comes_so own own' by by' start start' end end' one two comes same same_rules same_start same_end same_own =
-    on_both (ComesTo own by start end) (ComesTo own' by' start' end') one two same comes
+    on_both (TurnsComeTo own by start end) (TurnsComeTo own' by' start' end') one two same comes
     (λ done is came. comes_alike own own' by by' start start' end end' same_rules same_start same_end done (λ more. same_own (is ∙ ap (λ t. Ok t) more)) came)
 
 -- what commands are read and executed by, of its parts
@@ -142,8 +142,8 @@ with_items modes.Suspended items items' w d t none shown = tt
 
 -- and so does a line fit that is kept, if one is
 pub still_fits : {B : Type 0} (line : Option B) (kept : B → KeptDraft) (mode : B → Mode) (draws : B → Bool) (items items' : List Item) (surface : Surface) (screen : Screen) (prompt : List ℕ) (w : Environment)
-    → (items' ≡ [] → items ≡ []) → IfSome line (λ b. Fits (kept b) (mode b) (draws b) items surface screen prompt w)
-    → IfSome line (λ b. Fits (kept b) (mode b) (draws b) items' surface screen prompt w)
+    → (items' ≡ [] → items ≡ []) → IfSome line (λ b. FitsScreen (kept b) (mode b) (draws b) items surface screen prompt w)
+    → IfSome line (λ b. FitsScreen (kept b) (mode b) (draws b) items' surface screen prompt w)
 still_fits None kept mode draws items items' surface screen prompt w none fits = tt
 still_fits (Some b) kept mode draws items items' surface screen prompt w none fits = record {
   left = fits.left;

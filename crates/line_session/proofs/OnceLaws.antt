@@ -25,8 +25,8 @@ use Rattle.line_editor.specs.declared.left.Left.TheVariants as lefts
 use Rattle.line_editor.proofs.RunLaws.{one-phrase}
 use Rattle.line_session.specs.Completing.{BeginsCompletion, ByCandidates}
 use Rattle.line_session.specs.Pieces.{EndsOnce}
-use Rattle.line_session.specs.Searching.{BeginsSearch, Search, Searches, ShowsSearch, before_search, extended, first_search, gone_on, search_cmd, search_of, shortened}
-use Rattle.line_session.specs.Steps.{Answers, AnswersTurn, DoesCommand, DoesInSearch, DoesItem, Executes, ItemTaken, Resumed, Rules, Standing, Steps, TurnFrom, comes_in, once_drawn, reads_no_command}
+use Rattle.line_session.specs.Searching.{BeginsSearch, Search, Searches, ShowsSearch, before_search, extended, first_search, gone_on, search_cmd, search_value, shortened}
+use Rattle.line_session.specs.Steps.{AnswersCommand, AnswersTurn, DoesInMode, DoesInSearch, DoesItem, ExecutesAndAnswers, ItemTaken, Resumed, Rules, Standing, Steps, TurnFrom, comes_in, once_drawn, reads_no_command}
 use Rattle.line_session.specs.Steps as steps
 use Rattle.line_session.specs.declared.mode.Mode.{Mode}
 use Rattle.line_session.specs.declared.mode.Mode.TheVariants as modes
@@ -59,7 +59,7 @@ record SameSearch (one other : Mode) : Type 0 where
   searching' : Searching
   is : one ≡ modes.Searching searching
   is' : other ≡ modes.Searching searching'
-  same : search_of searching ≡ search_of searching'
+  same : search_value searching ≡ search_value searching'
 
 -- items are read alike: as the same, or by searches that stand for the same
 abbrev AlikeModes : Mode → Mode → Type 0
@@ -155,8 +155,8 @@ editor_is : (one other : Editor) → one.draft ≡ other.draft → one.kills ≡
 editor_is one other draft kills = ap (λ d. record { draft = d; kills = one.kills }) draft ∙ ap (λ k. record { draft = other.draft; kills = k }) kills
 
 module _ (by : Rules) (none : (shown : Shown) → by.environment.own_completion shown ≡ None) where
-  answers_once : (left : Option Left) (old new new' : Draft) (next next' : Mode) → Answers by.settings by.environment left modes.Editing old new next
-      → Answers by.settings by.environment left modes.Editing old new' next' → OnceLeft new new' next next'
+  answers_once : (left : Option Left) (old new new' : Draft) (next next' : Mode) → AnswersCommand by.settings by.environment left modes.Editing old new next
+      → AnswersCommand by.settings by.environment left modes.Editing old new' next' → OnceLeft new new' next next'
   answers_once None old new new' next next' one other = same_left old new new' next next' modes.Editing refl one other
   answers_once (Some lefts.Abort) old new new' next next' one other = same_left old new new' next next' modes.Editing refl one other
   answers_once (Some lefts.Complete) old new new' next next' one other =
@@ -194,7 +194,7 @@ module _ (by : Rules) (none : (shown : Shown) → by.environment.own_completion 
   turn_once interrupted left old new new' next next' one other = ended_once interrupted interrupted old new new' next next' refl one other
 
   executes_once : (command : Command) (input : Input) (found new new' : Editor) (next next' : Mode) (answer answer' : Answer)
-      → Executes by modes.Editing command input found new next answer → Executes by modes.Editing command input found new' next' answer'
+      → ExecutesAndAnswers by modes.Editing command input found new next answer → ExecutesAndAnswers by modes.Editing command input found new' next' answer'
       → Once new new' next next' answer answer'
   executes_once command input found new new' next next' answer answer' one other =
       let same : answer' ≡ answer = sym other.leaves.answered ∙ one.leaves.answered in
@@ -220,7 +220,7 @@ module _ (by : Rules) (none : (shown : Shown) → by.environment.own_completion 
       executes_once command input (once_drawn by.environment found) new new' next next' answer answer' one other
 
   does_once : (m : Mode) → is_plain m ≡ true → reads_no_command m ≡ false → (command : Command) (input : Input) (found new new' : Editor) (next next' : Mode) (answer answer' : Answer)
-      → DoesCommand by m command input found new next answer → DoesCommand by m command input found new' next' answer' → Once new new' next next' answer answer'
+      → DoesInMode by m command input found new next answer → DoesInMode by m command input found new' next' answer' → Once new new' next next' answer answer'
   does_once modes.Editing plain reads command input found new new' next next' answer answer' one other =
       executes_once command input found new new' next next' answer answer' one other
   does_once modes.Quoting plain reads command input found new new' next next' answer answer' one other = absurd (let two : true ≡ false = reads in cc)
@@ -228,17 +228,17 @@ module _ (by : Rules) (none : (shown : Shown) → by.environment.own_completion 
   does_once (modes.Offering candidates) plain reads command input found new new' next next' answer answer' one other = absurd (let two : false ≡ true = plain in cc)
   does_once (modes.Listing listing) plain reads command input found new new' next next' answer answer' one other = absurd (let two : false ≡ true = plain in cc)
   does_once (modes.Searching searching) plain reads command input found new new' next next' answer answer' one other =
-      search_once (search_of searching) (search_cmd command) command input found new new' next next' answer answer' one other
+      search_once (search_value searching) (search_cmd command) command input found new new' next next' answer answer' one other
   does_once modes.Suspended plain reads command input found new new' next next' answer answer' one other = absurd (let two : true ≡ false = reads in cc)
 
   -- what is read alike does the same
   does_alike : (m m' : Mode) (command : Command) (input : Input) (found new : Editor) (next : Mode) (answer : Answer) → AlikeModes m m'
-      → DoesCommand by m' command input found new next answer → DoesCommand by m command input found new next answer
-  does_alike m m' command input found new next answer (inl same) does = subst (λ x. DoesCommand by x command input found new next answer) (sym same) does
+      → DoesInMode by m' command input found new next answer → DoesInMode by m command input found new next answer
+  does_alike m m' command input found new next answer (inl same) does = subst (λ x. DoesInMode by x command input found new next answer) (sym same) does
   does_alike m m' command input found new next answer (inr both) does =
-      subst (λ x. DoesCommand by x command input found new next answer) (sym both.is)
+      subst (λ x. DoesInMode by x command input found new next answer) (sym both.is)
       (subst (λ q. DoesInSearch by q (search_cmd command) command input found new next answer) (sym both.same)
-      (subst (λ x. DoesCommand by x command input found new next answer) both.is' does))
+      (subst (λ x. DoesInMode by x command input found new next answer) both.is' does))
 
   item_does_alike : (m m' : Mode) (input : Input) (item : Item) (old new : Editor) (next : Mode) → AlikeModes m m'
       → DoesItem by input m' item old new next → DoesItem by input m item old new next
@@ -308,8 +308,8 @@ module _ (by : Rules) (none : (shown : Shown) → by.environment.own_completion 
   one_turn from to to' answer answer' plain one other =
       let read = one-phrase by.keymap by.ruler by.environment from.editor.draft from.input one.phrase other.phrase to.items to'.items one.read other.read one.comes other.comes
       (sym one.cut ∙ other.cut) in
-      let there : DoesCommand by from.mode one.read.command one.read.input (ready one.read.command one.read.draft from.editor.kills) to'.editor to'.mode answer' =
-      subst (λ (r : Read). DoesCommand by from.mode r.command r.input (ready r.command r.draft from.editor.kills) to'.editor to'.mode answer') (sym read.1) other.does in
+      let there : DoesInMode by from.mode one.read.command one.read.input (ready one.read.command one.read.draft from.editor.kills) to'.editor to'.mode answer' =
+      subst (λ (r : Read). DoesInMode by from.mode r.command r.input (ready r.command r.draft from.editor.kills) to'.editor to'.mode answer') (sym read.1) other.does in
       let both = does_once from.mode plain one.reads one.read.command one.read.input (ready one.read.command one.read.draft from.editor.kills) to.editor to'.editor to.mode to'.mode answer answer' one.does there in
       let input : to.input ≡ to'.input = one.input_left ∙ ap (λ (r : Read). r.input) read.1 ∙ sym other.input_left in
       record {

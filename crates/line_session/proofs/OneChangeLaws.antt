@@ -15,7 +15,7 @@ use Rattle.line_parts.specs.declared.completion.pair.Pair.{Pair}
 use Rattle.line_state.specs.Edited.{Edited, undone}
 use Rattle.line_editor.specs.Completing.{ComesIn, taken_back_once}
 use Rattle.line_editor.specs.Editor.{edited_of}
-use Rattle.line_session.specs.Completing.{Elects, GoesOnTo, Shows, before_shown, replacement_of}
+use Rattle.line_session.specs.Completing.{Elects, GoesOnTo, ShowsCandidate, before_shown, replacement_of}
 use Rattle.line_session.specs.OneChange.{CompletionIsOneChange, CompletionKeepsTheRest, GivingUpRestores, GoneThrough}
 use Rattle.line_session.specs.OneChange as one_change
 use Rattle.line_session.specs.declared.completing.Completing.{Completing}
@@ -88,7 +88,7 @@ module _ (environment : Environment) (old : Draft) (none : (written : Written) (
       subst (λ b. KeepsLine old (if b then taken_back_once new else new)) (sym back.1) (subst (λ d. KeepsLine old (taken_back_once d)) (sym elects.asked) there)
 
   shown_back : (start : ℕ) (candidate : Option Pair) (grown : Bool) (bare new : Draft) → KeepsLine old bare → BeginsIn old.line.text old.line.cursor start
-      → Shows environment start candidate grown bare new → KeepsLine old (if grown then taken_back_once new else new)
+      → ShowsCandidate environment start candidate grown bare new → KeepsLine old (if grown then taken_back_once new else new)
   shown_back start (Some candidate) grown bare new same fits shows = elected_back start (replacement_of candidate) grown bare new same fits shows
   shown_back start None grown bare new same fits shows =
       let there : KeepsLine old (hinted environment bare) = record { line = same.line; saved = same.saved; index = same.index } in

@@ -11,10 +11,10 @@ use Rattle.line_buffer.proofs.GroupLemmas.{closed_group}
 use Rattle.line_keys.specs.Draft.{Draft, hinted}
 use Rattle.line_parts.specs.Environment.{Environment}
 use Rattle.line_editor.specs.Completing.{taken_back_once}
-use Rattle.line_editor.specs.HistoryMoves.{at_index, boundary_or_end, is_boundary, is_own_line, put_alone, text_grows, text_put}
+use Rattle.line_editor.specs.HistoryMoves.{at_index, boundary_or_end, is_character_boundary, is_own_line, put_alone, text_grows, text_put}
 use Rattle.line_session.specs.OneSearch.{GivingUpSearchRestores, SearchIsOneChange, SearchedThrough}
 use Rattle.line_session.specs.OneSearch as one_search
-use Rattle.line_session.specs.Searching.{Search, ShowsSearch, back_to, before_search, found_grows, found_put, grown_by, led_to, place_put, search_of}
+use Rattle.line_session.specs.Searching.{Search, ShowsSearch, back_to, before_search, found_grows, found_put, grown_by, led_to, place_put, search_value}
 use Rattle.line_session.specs.declared.mode.Mode.{Mode}
 use Rattle.line_session.specs.declared.searching.Place.{Place}
 use Rattle.line_session.specs.declared.searching.SearchCmd.{SearchCmd}
@@ -111,7 +111,7 @@ led_stays environment (cmds.GoOn direction) search = (refl, refl)
 led_stays environment cmds.GiveUp search = (refl, refl)
 
 -- the cursor goes to a character boundary
-boundary_is : (text : List ℕ) (pos : ℕ) → IsCharBoundary text pos → is_boundary text pos ≡ true
+boundary_is : (text : List ℕ) (pos : ℕ) → IsCharBoundary text pos → is_character_boundary text pos ≡ true
 boundary_is text pos at = grind (arith, nat_tests, at.0, at.1)
 
 -- a search that began at a draft goes back to its text, cursor and history index
@@ -122,7 +122,7 @@ record Began (start : Draft) (search : Search) (draft : Draft) : Type 0 where
 
 -- the text from before is that of the start
 before_text : (environment : Environment) (start draft : Draft) (search : Search) → Began start search draft → (before_search environment search draft).line.text ≡ start.line.text
-before_text environment start draft search began = by_boundary (is_boundary (without search.grown draft).line.text search.pos) ∙ began.text
+before_text environment start draft search began = by_boundary (is_character_boundary (without search.grown draft).line.text search.pos) ∙ began.text
   where
     by_boundary : (b : Bool) → (if b then record (without search.grown draft) { line = with_cursor (without search.grown draft).line search.pos } else without search.grown draft).line.text
         ≡ (without search.grown draft).line.text
@@ -130,7 +130,7 @@ before_text environment start draft search began = by_boundary (is_boundary (wit
     by_boundary false = refl
 
 shows_so : (environment : Environment) (start before new : Draft) (search : Search) (mode : Mode) → search.pos ≡ start.line.cursor → search.index ≡ start.index
-    → before.line.text ≡ start.line.text → (shows : ShowsSearch environment search before new mode) → Began start (search_of shows.searching) new
+    → before.line.text ≡ start.line.text → (shows : ShowsSearch environment search before new mode) → Began start (search_value shows.searching) new
 shows_so environment start before new search mode pos index text shows = record {
   text = ap (λ (s : Search). (without s.grown new).line.text) shows.next
       ∙ ap (λ d. (without (grown_by environment search.place before) d).line.text) shows.shown
@@ -154,8 +154,8 @@ pub giving-up-search : GivingUpSearchRestores
 giving-up-search environment start draft new search mode at within through gives =
     let began = began_so environment start draft search through in
     let own = without search.grown draft in
-    let boundary : is_boundary own.line.text search.pos ≡ true =
-    ap₂ (λ t p. is_boundary t p) began.text began.pos ∙ boundary_is start.line.text start.line.cursor at in
+    let boundary : is_character_boundary own.line.text search.pos ≡ true =
+    ap₂ (λ t p. is_character_boundary t p) began.text began.pos ∙ boundary_is start.line.text start.line.cursor at in
     let back : before_search environment search draft ≡ at_index (min search.index (length environment.lines)) (record own { line = with_cursor own.line search.pos }) =
     ap (λ b. at_index (min search.index (length environment.lines)) (if b then record own { line = with_cursor own.line search.pos } else own)) boundary in
     record {

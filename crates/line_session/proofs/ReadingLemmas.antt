@@ -20,9 +20,9 @@ use Rattle.line_editor.specs.ItemShown.{any_drawn}
 use Rattle.line_term.specs.Decoder as decoding
 use Rattle.line_session.specs.Pieces.{GoesOnFrom, drawn_anew, with_more}
 use Rattle.line_session.specs.Pieces as pieces
-use Rattle.line_session.specs.Reading.{BindingsLookAtNoHint, CameOver, Heard, HearsOnce, Reads, ReadsLine, answer_of}
+use Rattle.line_session.specs.Reading.{BindingsLookAtNoHint, CameOver, Heard, HearsOnce, ReadsInput, ReadsLine, readline_answer}
 use Rattle.line_session.specs.Reading as reading
-use Rattle.line_session.specs.Sitting.{BegunLine, Came, CameBegun, CameFrom, EndsLine, Keeps, Sitting, first_standing, rules_at, rules_for, standing_with, suspends, with_turn}
+use Rattle.line_session.specs.Sitting.{BegunLine, Came, CameBegun, CameFrom, LineHasEnded, Keeps, Sitting, first_standing, rules_at, rules_for, standing_with, suspends, with_turn}
 use Rattle.line_session.specs.Steps.{Rules, Standing, starting}
 use Rattle.line_session.specs.declared.editor.Fed.{Fed}
 use Rattle.line_session.specs.declared.editor.Fed.TheVariants as fed
@@ -31,7 +31,7 @@ use Rattle.line_session.proofs.StepLemmas.{ends_over, starts_more}
 use Rattle.line_session.proofs.WholeLaws.{ends-same}
 
 -- a line that has ended in a call has ended over several
-abbrev line_over : {H : Type 0} (by : Rules) (start : Standing) (new : Sitting H) (answer : Answer) → EndsLine by false start new answer → EndsLine by true start new answer
+abbrev line_over : {H : Type 0} (by : Rules) (start : Standing) (new : Sitting H) (answer : Answer) → LineHasEnded by false start new answer → LineHasEnded by true start new answer
 line_over by start new answer ends = record {
   end = ends.end;
   ends = ends_over by start ends.end answer ends.ends;
@@ -49,7 +49,7 @@ module _ {H : Type 0} (answers : H → List (List ℕ) → Environment) (bound :
 
   -- the line has begun
   pub reads_begun : (now : Sitting H) (came : Fed) → CameBegun answers bound prompt before behind old now came → Keeps answers (record old { prompt = prompt }) now
-      → Reads answers bound pauses input input prompt before behind old now came
+      → ReadsInput answers bound pauses input input prompt before behind old now came
   reads_begun now came begun keeps = record {
     items = [];
     heard = subst (λ d. Heard pauses input old.decoder input [] d) (sym keeps.decoder) reading.nothing;
@@ -86,7 +86,7 @@ module _ {H : Type 0} (answers : H → List (List ℕ) → Environment) (bound :
       by_fed fed.Ended begun = subst (λ s. CameFrom by true s old now fed.Ended) whole (line_over by start now ended begun.0, begun.1)
       by_fed fed.Interrupted begun = subst (λ s. CameFrom by true s old now fed.Interrupted) whole (line_over by start now interrupted begun.0, begun.1)
 
-  module _ (no_hint : BindingsLookAtNoHint bound) (now : Sitting H) (at : Option (List ℕ)) (reads : Reads answers bound pauses input at prompt before behind old now fed.More) where
+  module _ (no_hint : BindingsLookAtNoHint bound) (now : Sitting H) (at : Option (List ℕ)) (reads : ReadsInput answers bound pauses input at prompt before behind old now fed.More) where
     abbrev left : BegunLine
     left = reads.over.0.left
 
@@ -121,7 +121,7 @@ module _ {H : Type 0} (answers : H → List (List ℕ) → Environment) (bound :
         }
 
     -- more was heard, and this came of it
-    pub reads_on : (new : Sitting H) (later : Option (List ℕ)) (came : Fed) → HearsOnce answers bound pauses at later now left new came → Reads answers bound pauses input later prompt before behind old new came
+    pub reads_on : (new : Sitting H) (later : Option (List ℕ)) (came : Fed) → HearsOnce answers bound pauses at later now left new came → ReadsInput answers bound pauses input later prompt before behind old new came
     reads_on new later came hears =
         let turn = hears.turn in
         let here = goes_on_at turn.items in
@@ -149,8 +149,8 @@ module _ {H : Type 0} (answers : H → List (List ℕ) → Environment) (bound :
           };
         }
       where
-        line_whole : (piece : List Item) (here : GoesOnAt piece) (answer : Answer) → EndsLine by false (with_more piece here.next) new answer
-            → EndsLine by true (with_more (reads.items ++ piece) start) new answer
+        line_whole : (piece : List Item) (here : GoesOnAt piece) (answer : Answer) → LineHasEnded by false (with_more piece here.next) new answer
+            → LineHasEnded by true (with_more (reads.items ++ piece) start) new answer
         line_whole piece here answer ends = record {
           end = ends.end;
           ends = ends-same by start waiting here.next ends.end reads.items piece reads.over.0.drawn answer no_hint reads.over.0.waited here.goes ends.ends;
@@ -181,8 +181,8 @@ module _ {H : Type 0} (answers : H → List (List ℕ) → Environment) (bound :
         by_fed piece here fed.Interrupted came = (line_whole piece here interrupted came.0, came.1)
 
 -- a turn of the bytes that was heard, and what came of it
-pub hears_turn : {H : Type 0} (answers : H → List (List ℕ) → Environment) (bound : Bound) (pauses : Bool) (input input' : Option (List ℕ)) (old new : Sitting H) (begun : BegunLine) (turn : decoding.Turn) (came : Fed)
-    → ((first : Option (List ℕ)) (before : decoding.Standing) (items : List Item) → Heard pauses first before input items old.decoder
+pub hears_turn : {H : Type 0} (answers : H → List (List ℕ) → Environment) (bound : Bound) (pauses : Bool) (input input' : Option (List ℕ)) (old new : Sitting H) (begun : BegunLine) (turn : decoding.DecoderTurn) (came : Fed)
+    → ((first : Option (List ℕ)) (before : decoding.DecoderState) (items : List Item) → Heard pauses first before input items old.decoder
     → Heard pauses first before input' (items ++ turn.items) turn.after)
     → Came answers bound (with_turn turn old) begun new came → Keeps answers (with_turn turn old) new → HearsOnce answers bound pauses input input' old begun new came
 hears_turn answers bound pauses input input' old new begun turn came heard comes keeps = record {
@@ -199,8 +199,8 @@ reads_none (Some bytes) = refl
 
 -- what is answered of a line that was read, once no line goes on
 pub answers_line : {H : Type 0} (answers : H → List (List ℕ) → Environment) (bound : Bound) (pauses : Bool) (input input' : Option (List ℕ)) (prompt before behind : List ℕ) (old last new : Sitting H) (came : Fed)
-    (result : Result (String Global) ReadlineError) → Reads answers bound pauses input input' prompt before behind old last came → (came ≡ fed.More → IsAtEnd input' × (suspends last ≡ false))
-    → UnlessFault result ((result ≡ answer_of came) × (new ≡ record last { line = None }))
+    (result : Result (String Global) ReadlineError) → ReadsInput answers bound pauses input input' prompt before behind old last came → (came ≡ fed.More → IsAtEnd input' × (suspends last ≡ false))
+    → UnlessFault result ((result ≡ readline_answer came) × (new ≡ record last { line = None }))
     → UnlessFault result (ReadsLine answers bound pauses input input' prompt before behind old new result)
 answers_line answers bound pauses input input' prompt before behind old last new came (Ok text) reads at_end told =
     record { came = came; last = last; told = told.0; reads = reads; ended = at_end; gone = told.1 }

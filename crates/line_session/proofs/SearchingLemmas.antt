@@ -13,7 +13,7 @@ use Rattle.line_parts.specs.History.{found_of, search_in}
 use Rattle.line_parts.specs.Quoting.{without_last}
 use Rattle.line_parts.specs.declared.history.SearchDirection.{SearchDirection}
 use Rattle.line_parts.specs.declared.history.SearchResult.{SearchResult}
-use Rattle.line_session.specs.Searching.{BeginsSearch, GoesOn, Search, Searches, ShowsSearch, back_to, before_search, extended, first_search, gone_on, grown_by, led_to, less_one_char, next_place, next_start, place_put, search_of, shortened}
+use Rattle.line_session.specs.Searching.{BeginsSearch, SearchGoesOn, Search, Searches, ShowsSearch, back_to, before_search, extended, first_search, gone_on, grown_by, led_to, less_one_char, next_place, next_start, place_put, search_value, shortened}
 use Rattle.line_session.specs.declared.mode.Mode.{Mode}
 use Rattle.line_session.specs.declared.mode.Mode.TheVariants as modes
 use Rattle.line_session.specs.declared.searching.Place.{Place}
@@ -32,12 +32,12 @@ seeks_so lines term before place from start direction found is finds stands =
 -- what was found is shown
 pub shows_it : (w w1 w2 : Environment) (searching next : Searching) (before d1 d2 d3 : Draft) (grown : Bool) → w1 ≡ w → w2 ≡ w1 → d1 ≡ before
     → d2 ≡ place_put w1 searching.place d1 → grown ≡ grown_by w1 searching.place d1 → d3 ≡ hinted w2 d2 → next ≡ record searching { grown = grown }
-    → ShowsSearch w (search_of searching) before d3 (modes.Searching next)
+    → ShowsSearch w (search_value searching) before d3 (modes.Searching next)
 shows_it w w1 w2 searching next before d1 d2 d3 grown same1 same2 at put grows shown is = record {
   searching = next;
   mode_is = refl;
-  next = ap (λ s. search_of s) is
-      ∙ ap (λ g. record (search_of searching) { grown = g }) (grows ∙ ap₂ (λ w d. grown_by w searching.place d) same1 at);
+  next = ap (λ s. search_value s) is
+      ∙ ap (λ g. record (search_value searching) { grown = g }) (grows ∙ ap₂ (λ w d. grown_by w searching.place d) same1 at);
   shown = shown ∙ ap₂ (λ w d. hinted w d) (same2 ∙ same1) (put ∙ ap₂ (λ w d. place_put w searching.place d) same1 at);
 }
 
@@ -117,7 +117,7 @@ goes_on w says search next old new (Ok mode) goes is shows =
     by_command says goes (subst (λ d. ShowsSearch w (led_to w says search) d new mode) (led_stays w says search old)
     (subst (λ s. ShowsSearch w s (before_search w s old) new mode) is shows))
   where
-    by_command : (says : SearchCmd) → (says ≡ cmds.GiveUp → ⊥) → GoesOn w says search old new mode → Searches w search says old new mode
+    by_command : (says : SearchCmd) → (says ≡ cmds.GiveUp → ⊥) → SearchGoesOn w says search old new mode → Searches w search says old new mode
     by_command (cmds.Extend c) goes on = on
     by_command cmds.Shorten goes on = on
     by_command (cmds.GoOn direction) goes on = on
@@ -132,12 +132,12 @@ pub begins_so : (w : Environment) (direction : SearchDirection) (old new : Draft
 begins_so w direction old new searching count counted some empty first shorter towards pos index grown shown =
     by_lines (length w.lines == 0) refl
   where
-    is : search_of searching ≡ first_search w direction old
+    is : search_value searching ≡ first_search w direction old
     is =
-        parts (search_of searching) (string_bytes searching.term) [] searching.place (first_search w direction old).place (reverse searching.shorter.items) [] empty
+        parts (search_value searching) (string_bytes searching.term) [] searching.place (first_search w direction old).place (reverse searching.shorter.items) [] empty
         (first ∙ ap (λ n. record { index = n - 1; pos = None; failed = false }) counted) (ap (λ l. reverse l) shorter)
-        ∙ ap (λ d. record (search_of searching) { term = []; place = (first_search w direction old).place; shorter = []; direction = d }) towards
-        ∙ ap (λ p. record (search_of searching) { term = []; place = (first_search w direction old).place; shorter = []; direction = direction; pos = p }) pos
+        ∙ ap (λ d. record (search_value searching) { term = []; place = (first_search w direction old).place; shorter = []; direction = d }) towards
+        ∙ ap (λ p. record (search_value searching) { term = []; place = (first_search w direction old).place; shorter = []; direction = direction; pos = p }) pos
         ∙ ap (λ i. record (first_search w direction old) { index = i; grown = searching.grown }) index
         ∙ ap (λ g. record (first_search w direction old) { grown = g }) grown
 

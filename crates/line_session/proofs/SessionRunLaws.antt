@@ -10,7 +10,7 @@ use Rattle.line_editor.specs.Run.{End, Run, Turn, dry, ready, stopped}
 use Rattle.line_editor.specs.Step.{step}
 use Rattle.line_session.specs.SessionIsRun.{RunLeavesNone, RunsPlainly, SessionIsRun, SessionPlainly, StepsLeaveNone, reading_commands}
 use Rattle.line_session.specs.Steps as steps
-use Rattle.line_session.specs.Steps.{AnswersTurn, DoesCommand, Executes, Rules, Standing, Steps, TurnFrom, WaitsIn, reads_no_command}
+use Rattle.line_session.specs.Steps.{AnswersTurn, DoesInMode, ExecutesAndAnswers, Rules, Standing, Steps, TurnFrom, WaitsIn, reads_no_command}
 use Rattle.line_session.specs.declared.mode.Mode.{Mode}
 use Rattle.line_session.specs.declared.mode.Mode.TheVariants.{Editing}
 
@@ -36,8 +36,8 @@ answered by interrupted command executed new next none answers = answers
 turns : (by : Rules) (from to : Standing) (answer : Answer) (turn : TurnFrom by from to answer) → from.mode ≡ Editing
     → (answer ≡ proceeds → left_by turn.read.command ≡ None) → Turns by from to answer turn
 turns by from to answer turn mode none =
-    let does : Executes by Editing turn.read.command turn.read.input (ready turn.read.command turn.read.draft from.editor.kills) to.editor to.mode answer =
-    subst (λ m. DoesCommand by m turn.read.command turn.read.input (ready turn.read.command turn.read.draft from.editor.kills) to.editor to.mode answer) mode turn.does in
+    let does : ExecutesAndAnswers by Editing turn.read.command turn.read.input (ready turn.read.command turn.read.draft from.editor.kills) to.editor to.mode answer =
+    subst (λ m. DoesInMode by m turn.read.command turn.read.input (ready turn.read.command turn.read.draft from.editor.kills) to.editor to.mode answer) mode turn.does in
     let told = answered by answer turn.read.command does.executed to.editor to.mode none does.answers in
     record {
       taken = record {

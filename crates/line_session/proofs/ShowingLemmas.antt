@@ -10,9 +10,9 @@ use Rattle.line_screen.specs.Measure.{measured}
 use Rattle.line_state.specs.Kept.{display_on}
 use Rattle.line_editor.specs.Released.{KeptDraft}
 use Rattle.line_term.specs.Shown.{EndsInRows, IsOnTerminal}
-use Rattle.line_session.specs.Kept.{Fits, IsShownWithItems}
+use Rattle.line_session.specs.Kept.{FitsScreen, IsShownWithItems}
 use Rattle.line_session.specs.OnTerminal.{IsLineInModeOn, IsLineOn, ShowsBegun, screen_of}
-use Rattle.line_session.specs.Searching.{search_of, search_prompt}
+use Rattle.line_session.specs.Searching.{search_value, search_prompt}
 use Rattle.line_session.specs.Sitting.{BegunLine, Sitting}
 use Rattle.line_session.specs.declared.mode.Mode.{Mode}
 use Rattle.line_session.specs.declared.mode.Mode.TheVariants as modes
@@ -55,7 +55,7 @@ shows_in_mode contents columns out (modes.Offering candidates) items environment
     (shown.trailing, shown.trails, in_full contents columns out _ prompt _ _ _ measure (sym ends ∙ ap (λ m. m prompt corner) measure) shown.in_full told)
 shows_in_mode contents columns out (modes.Listing listing) items environment prompt kept surface screen measure ends shown told = tt
 shows_in_mode contents columns out (modes.Searching searching) items environment prompt kept surface screen measure ends shown told = λ none.
-    let prompt' = search_prompt (search_of searching) in
+    let prompt' = search_prompt (search_value searching) in
     in_full contents columns out _ prompt' _ _ _ measure (ap (λ m. m prompt' corner) measure) (shown none) told
 shows_in_mode contents columns out modes.Suspended items environment prompt kept surface screen measure ends shown told = tt
 
@@ -63,7 +63,7 @@ shows_in_mode contents columns out modes.Suspended items environment prompt kept
 pub shows_begun : {O H B : Type 0} (contents : O → Option (List ℕ)) (answers : H → List (List ℕ) → Environment) (out : O) (line : Option B) (begun_of : B → BegunLine)
     (sitting : Sitting H) (surface : Surface) (screen : Screen) → sitting.line ≡ option_map begun_of line
     → surface.measure ≡ measured sitting.columns
-    → IfSome line (λ b. Fits (begun_of b).kept (begun_of b).mode (begun_of b).draws sitting.items surface screen sitting.prompt (answers sitting.helper sitting.lines))
+    → IfSome line (λ b. FitsScreen (begun_of b).kept (begun_of b).mode (begun_of b).draws sitting.items surface screen sitting.prompt (answers sitting.helper sitting.lines))
     → (screen.known ≡ true → EndsInRows (measured sitting.columns) screen → IsOnTerminal contents sitting.columns out screen)
     → ShowsBegun contents answers sitting out
 shows_begun contents answers out None begun_of sitting surface screen is measure fits told = λ begun line off. absurd (let none = sym line ∙ is in cc)

@@ -5,7 +5,7 @@ use Rattle.line_keys.specs.Item.{Item, key}
 use Rattle.line_keys.specs.declared.keys.KeyEvent.{KeyEvent}
 use Rattle.line_parts.specs.Environment.{Environment}
 use Rattle.line_session.specs.Pieces.{with_more}
-use Rattle.line_session.specs.Steps.{Ends, Rules, Standing, Steps, comes_in, is_suspended, once_drawn, resumed, shows_line, starting, reads_no_command}
+use Rattle.line_session.specs.Steps.{StepsEnd, Rules, Standing, Steps, comes_in, is_suspended, once_drawn, resumed, shows_line, starting, reads_no_command}
 use Rattle.line_session.specs.Steps as steps
 use Rattle.line_session.specs.declared.listing.Listing.{Listing}
 use Rattle.line_session.specs.declared.mode.Mode.{Mode}
@@ -27,7 +27,7 @@ steps_over by start to (steps.turn {found} {next} before turn) = steps.turn (ste
 steps_over by start to (steps.item {found} {next} before puts) = steps.item (steps_over by start found before) puts
 steps_over by start to (steps.resume {found} {next} over before goes) = absurd (let two : false ≡ true = over in cc)
 
-pub ends_over : (by : Rules) (start end : Standing) (answer : Answer) → Ends by false start end answer → Ends by true start end answer
+pub ends_over : (by : Rules) (start end : Standing) (answer : Answer) → StepsEnd by false start end answer → StepsEnd by true start end answer
 ends_over by start end answer ends = record { found = ends.found; steps = steps_over by start ends.found ends.steps; last = ends.last }
 
 -- where a key is taken by itself no item is read as part of a command

@@ -35,10 +35,10 @@ use Rattle.line_editor.proofs.DrawnLemmas.{hint_trails, line_stays}
 use Rattle.line_editor.proofs.ShownLemmas.{none-last}
 use Rattle.line_editor.proofs.TurnLemmas.{needs_more}
 use Rattle.line_editor.proofs.PhraseReadLemmas.{has_item}
-use Rattle.line_session.specs.Searching.{Search, search_cmd, search_of}
-use Rattle.line_session.specs.Steps.{Answers, AnswersTurn, DoesCommand, DoesInSearch, Executes, Rules, TurnFrom, once_drawn, reads_no_command}
+use Rattle.line_session.specs.Searching.{Search, search_cmd, search_value}
+use Rattle.line_session.specs.Steps.{AnswersCommand, AnswersTurn, DoesInMode, DoesInSearch, ExecutesAndAnswers, Rules, TurnFrom, once_drawn, reads_no_command}
 use Rattle.line_session.specs.Steps as steps
-use Rattle.line_session.specs.Taken.{DrawnBehind, IsShown, TakesOne, rules_by, rules_of, standing_of}
+use Rattle.line_session.specs.Taken.{DrawnBehind, IsLineShown, TakesOne, rules_by, session_rules, standing_of}
 use Rattle.line_session.specs.declared.mode.Mode.{Mode}
 use Rattle.line_session.specs.declared.mode.Mode.TheVariants as modes
 use Rattle.line_session.specs.declared.searching.SearchCmd.{SearchCmd}
@@ -48,7 +48,7 @@ use Rattle.line_session.proofs.ModeLemmas.{shown_waiting_in}
 
 -- outside of a search and a list a command is executed
 does_in : (by : Rules) (m : Mode) (command : Command) (input : Input) (found new : Editor) (next : Mode) (answer : Answer) → steps.shows_line m ≡ true
-    → Executes by m command input found new next answer → DoesCommand by m command input found new next answer
+    → ExecutesAndAnswers by m command input found new next answer → DoesInMode by m command input found new next answer
 does_in by modes.Editing command input found new next answer edits executes = executes
 does_in by modes.Quoting command input found new next answer edits executes = executes
 does_in by (modes.Completing going) command input found new next answer edits executes = executes
@@ -59,14 +59,14 @@ does_in by modes.Suspended command input found new next answer edits executes = 
 
 module _ {X : Type 0} (e : editors.Ghosts X) (state : X) (settings : Settings) where
   -- behind the own prompt the ruler is the own one
-  pub own_there : IsShown e state → ruler_of (e.display state) settings.indent_size ≡ own_ruler (e.display state) settings.indent_size
+  pub own_there : IsLineShown e state → ruler_of (e.display state) settings.indent_size ≡ own_ruler (e.display state) settings.indent_size
   own_there shown =
       let column : Position → Ruler = λ p. record { prompt_column = p.col; cluster_mode = (e.display state).layout.grapheme_cluster_mode; indent_size = settings.indent_size } in
       let mode : GraphemeClusterMode → Ruler = λ m. record { prompt_column = (e.display state).prompt_end.col; cluster_mode = m; indent_size = settings.indent_size } in
       ap column shown.right.drawn.prompt ∙ ap mode shown.right.drawn.mode
 
   -- whether a count is typed or not
-  own_behind : IsShown e state → (shown : List ItemShown) (ruler : Ruler) → ruler ≡ ruler_behind shown (e.display state) settings.indent_size → ruler ≡ own_ruler (e.display state) settings.indent_size
+  own_behind : IsLineShown e state → (shown : List ItemShown) (ruler : Ruler) → ruler ≡ ruler_behind shown (e.display state) settings.indent_size → ruler ≡ own_ruler (e.display state) settings.indent_size
   own_behind right_here shown ruler measured = measured ∙ by_any (any_drawn shown)
     where
       by_any : (b : Bool) → cond b (own_ruler (e.display state) settings.indent_size) (ruler_of (e.display state) settings.indent_size) ≡ own_ruler (e.display state) settings.indent_size
@@ -83,11 +83,11 @@ rules_stay e keymap settings old new frame =
     ap column frame.prompt_end ∙ ap mode frame.surface ∙ ap asked frame.environment
 
 module _ {X Y : Type 0} (e : editors.Ghosts X) (r : readers.Ghosts Y) (settings : Settings) (mode : Mode) (now next : Session X Y) where
-  module _ (reads : reads_no_command mode ≡ false) (edits : steps.shows_line mode ≡ true) (shown : IsShown e now.state) where
+  module _ (reads : reads_no_command mode ≡ false) (edits : steps.shows_line mode ≡ true) (shown : IsLineShown e now.state) where
     -- a turn that was made, and what was done about what it left
     turn_here : (answer : Answer) (then_ : Mode) (last : Editor) → (turn : TakesTurn e r settings.indent_size now next answer)
-        → AnswersTurn (rules_of e r settings now) answer (left_by turn.turn.read.command) mode (editor_of e next.state next.kills) last then_
-        → TurnFrom (rules_of e r settings now) (standing_of e r mode now) (record (standing_of e r then_ next) { editor = last }) answer
+        → AnswersTurn (session_rules e r settings now) answer (left_by turn.turn.read.command) mode (editor_of e next.state next.kills) last then_
+        → TurnFrom (session_rules e r settings now) (standing_of e r mode now) (record (standing_of e r then_ next) { editor = last }) answer
     turn_here answer then_ last turn answers = record {
       reads = reads;
       phrase = turn.turn.phrase;
@@ -95,7 +95,7 @@ module _ {X Y : Type 0} (e : editors.Ghosts X) (r : readers.Ghosts Y) (settings 
       cut = turn.turn.cut;
       comes = turn.turn.reads;
       input_left = turn.turn.input_left;
-      does = does_in (rules_of e r settings now) mode turn.turn.read.command turn.turn.read.input
+      does = does_in (session_rules e r settings now) mode turn.turn.read.command turn.turn.read.input
           (ready turn.turn.read.command turn.turn.read.draft now.kills) last then_ answer edits (record {
             executed = editor_of e next.state next.kills;
             leaves =
@@ -106,18 +106,18 @@ module _ {X Y : Type 0} (e : editors.Ghosts X) (r : readers.Ghosts Y) (settings 
     }
 
     -- behind a turn that proceeds the line is shown
-    pub shown_on : Advances e r settings.indent_size (Ok turned.Proceeds) now next → IsShown e next.state
+    pub shown_on : Advances e r settings.indent_size (Ok turned.Proceeds) now next → IsLineShown e next.state
     shown_on advances =
         let turn : TakesTurn e r settings.indent_size now next proceeds = advances.turned in
         shown_by e next.state (turn.drawn.right shown.right) (turn.drawn.line (line_by e now.state shown))
 
     -- a turn that proceeds, and what was done about what it left
     pub proceeds_so : (left : Option Left) (then_ : Mode) (state : X) → Advances e r settings.indent_size (Ok turned.Proceeds) now next
-        → TellsLeft e r (Ok (turned.Proceeds, left)) now next → Answers settings (e.environment next.state) left mode (e.draft next.state) (e.draft state) then_
+        → TellsLeft e r (Ok (turned.Proceeds, left)) now next → AnswersCommand settings (e.environment next.state) left mode (e.draft next.state) (e.draft state) then_
         → TakesOne e r settings mode now turned.Proceeds then_ (session state next.keys next.reader next.kills)
     proceeds_so left then_ state advances tells answers =
         let turn : TakesTurn e r settings.indent_size now next proceeds = advances.turned in
-        let D : Option Left → Environment → Type 0 = λ l w. Answers settings w l mode (e.draft next.state) (e.draft state) then_ in
+        let D : Option Left → Environment → Type 0 = λ l w. AnswersCommand settings w l mode (e.draft next.state) (e.draft state) then_ in
         let there = subst (λ l. D l (e.environment now.state)) (tells.told left refl turn.ruler turn.turn) (subst (D left) advances.stays.keeps.both.frame.environment answers) in
         turn_here proceeds then_ (editor_of e state next.kills) turn (there, refl)
 
@@ -147,12 +147,12 @@ module _ {X Y : Type 0} (e : editors.Ghosts X) (r : readers.Ghosts Y) (settings 
     from = entered keymap (e.draft now.state) now.keys.input (r.rest now.reader)
 
     -- where the items are no phrase yet the line is shown, unless another prompt is
-    shown_alone : Frame e now.state next.state → NeedsMoreItems e r now next → (e.display next.state).layout.default_prompt ≡ true → IsShown e next.state
+    shown_alone : Frame e now.state next.state → NeedsMoreItems e r now next → (e.display next.state).layout.default_prompt ≡ true → IsLineShown e next.state
     shown_alone frame dry_up own_prompt =
         by_last (last_drawn dry_up.out.lacks.shown) refl dry_up.out.drew
       where
         by_last : (last : ItemShown) → last_drawn dry_up.out.lacks.shown ≡ last
-            → Drew e (times_drawn dry_up.out.lacks.shown) (drawing_shown last) now.state next.state → IsShown e next.state
+            → Drew e (times_drawn dry_up.out.lacks.shown) (drawing_shown last) now.state next.state → IsLineShown e next.state
         by_last shows_line is drew = shown_by e next.state drew.right (hint_trails e next.state drew.shows)
         by_last (shows_count keys) is drew = absurd (let other = drew.other in cc)
         by_last kept is drew =
@@ -183,7 +183,7 @@ module _ {X : Type 0} (e : editors.Ghosts X) (settings : Settings) (keymap : Key
       let L : Ruler → Environment → Draft → Type 0 = λ u w d. Leaves (step u w input (record { draft = d; kills = kills }) command) (editor_of e new kills') answer in
       let ruler : ruler_of (e.display mid) settings.indent_size ≡ by.ruler =
       own_there e mid settings shown ∙ ap (λ (r : Rules). r.ruler) (rules_stay e keymap settings old mid frame) in
-      let there : Executes by modes.Editing command input (once_drawn by.environment (editor_of e old kills)) (editor_of e last kills') next answer = record {
+      let there : ExecutesAndAnswers by modes.Editing command input (once_drawn by.environment (editor_of e old kills)) (editor_of e last kills') next answer = record {
         executed = editor_of e new kills';
         leaves =
             subst (λ d. L by.ruler (e.environment old) d) draft
@@ -194,10 +194,10 @@ module _ {X : Type 0} (e : editors.Ghosts X) (settings : Settings) (keymap : Key
       subst (λ s. DoesInSearch by search s command input (editor_of e old kills) (editor_of e last kills') next answer) (sym none) there
 
   pub proceeds_out : (left : Option Left) (next : Mode) → left ≡ left_by command → e.environment new ≡ e.environment mid → Executed e mid input settings.indent_size kills command new kills' proceeds
-      → Answers settings (e.environment new) left modes.Editing (e.draft new) (e.draft last) next
+      → AnswersCommand settings (e.environment new) left modes.Editing (e.draft new) (e.draft last) next
       → DoesInSearch by search says command input (editor_of e old kills) (editor_of e last kills') next proceeds
   proceeds_out left next is same done answers =
-      let A : Environment → Option Left → Type 0 = λ w l. Answers settings w l modes.Editing (e.draft new) (e.draft last) next in
+      let A : Environment → Option Left → Type 0 = λ w l. AnswersCommand settings w l modes.Editing (e.draft new) (e.draft last) next in
       leaves_so next proceeds done (subst (λ l. A (e.environment old) l) is (subst (λ w. A w left) (same ∙ frame.environment) answers), refl)
 
 -- one that does not proceed leaves nothing to be answered
@@ -230,14 +230,14 @@ module _ {X Y : Type 0} (e : editors.Ghosts X) (r : readers.Ghosts Y) (settings 
     (reader reader' : Y) (kills reset kills' : Ring) (c : Cmd) (all : ReadsCommand e r grouped (Ok c) old keys reader middle keys' reader')
     (was_reset : reset ≡ kills_before (command_of c) kills) where
   search_so : (next : Mode) (answer : Answer)
-      → DoesInSearch (rules_by e (keymap_of keys (r.own_binding (r.kept reader))) settings middle) (search_of searching) (search_cmd (command_of c)) (command_of c) keys'.input
+      → DoesInSearch (rules_by e (keymap_of keys (r.own_binding (r.kept reader))) settings middle) (search_value searching) (search_cmd (command_of c)) (command_of c) keys'.input
       (editor_of e middle reset) (editor_of e new kills') next answer
-      → TurnFrom (rules_of e r settings (session old keys reader kills)) (standing_of e r (modes.Searching searching) (session old keys reader kills))
+      → TurnFrom (session_rules e r settings (session old keys reader kills)) (standing_of e r (modes.Searching searching) (session old keys reader kills))
       (standing_of e r next (session new keys' reader' kills')) answer
   search_so next answer does =
       let was = all.phrase.read in
-      let D : Rules → Command → Input → Editor → Type 0 = λ by command input found. DoesCommand by (modes.Searching searching) command input found (editor_of e new kills') next answer in
-      let by = rules_of e r settings (session old keys reader kills) in
+      let D : Rules → Command → Input → Editor → Type 0 = λ by command input found. DoesInMode by (modes.Searching searching) command input found (editor_of e new kills') next answer in
+      let by = session_rules e r settings (session old keys reader kills) in
       let found : editor_of e middle reset ≡ ready was.read.command was.read.draft kills =
       ap (λ d. record { draft = d; kills = reset }) was.begun_there
       ∙ ap (λ k. record { draft = grouped (command_of c) was.read.draft; kills = k }) was_reset
@@ -258,7 +258,7 @@ module _ {X Y : Type 0} (e : editors.Ghosts X) (r : readers.Ghosts Y) (settings 
       }
 
   pub searched_so : (done : Turned) (next : Mode)
-      → ((keymap : Keymap) → AnswersAs done (DoesInSearch (rules_by e keymap settings middle) (search_of searching) (search_cmd (command_of c)) (command_of c) keys'.input
+      → ((keymap : Keymap) → AnswersAs done (DoesInSearch (rules_by e keymap settings middle) (search_value searching) (search_cmd (command_of c)) (command_of c) keys'.input
       (editor_of e middle reset) (editor_of e new kills') next))
       → (done ≡ turned.Proceeds) ⊎ (next ≡ modes.Editing)
       → TakesOne e r settings (modes.Searching searching) (session old keys reader kills) done next (session new keys' reader' kills')

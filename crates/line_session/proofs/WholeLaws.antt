@@ -18,7 +18,7 @@ use Rattle.line_editor.proofs.DrawnAgainLaws.{drawn-again}
 use Rattle.line_parts.specs.Environment.{Environment}
 use Rattle.line_session.specs.Pieces.{EndsTheSame, GoesOnFrom, Waited, with_more}
 use Rattle.line_session.specs.Pieces as pieces
-use Rattle.line_session.specs.Steps.{Ends, ItemTaken, Rules, Standing, Steps, TurnFrom, Waits, WaitsIn, comes_in, is_suspended, starting, reads_no_command}
+use Rattle.line_session.specs.Steps.{StepsEnd, ItemTaken, Rules, Standing, Steps, TurnFrom, Waits, WaitsIn, comes_in, is_suspended, starting, reads_no_command}
 use Rattle.line_session.specs.Steps as steps
 use Rattle.line_session.specs.declared.mode.Mode.{Mode}
 use Rattle.line_session.specs.declared.mode.Mode.TheVariants as modes
@@ -209,8 +209,8 @@ module _ (by : Rules) (no_hint : (typed : KeyEvent) → KeyLooksAtNoHint by.keym
     | inr there ↦ steps.resume over there goes
   ])
 
-  ends_whole : (start end : Standing) (answer : Answer) → Steps by true start (with_more more found) → Ends by true (with_more more (cut_at found cut)) end answer
-      → Ends by true start end answer
+  ends_whole : (start end : Standing) (answer : Answer) → Steps by true start (with_more more found) → StepsEnd by true (with_more more (cut_at found cut)) end answer
+      → StepsEnd by true start end answer
   ends_whole start end answer front ends = elim (steps_whole start ends.found front ends.steps) [
     | inl is ↦ record {
       found = with_more more found;
@@ -223,8 +223,8 @@ module _ (by : Rules) (no_hint : (typed : KeyEvent) → KeyLooksAtNoHint by.keym
 -- where a call waited once
 ends_once : (by : Rules) (start left next end : Standing) (piece : List Item) (answer : Answer)
     → ((typed : KeyEvent) → KeyLooksAtNoHint by.keymap.bound typed)
-    → (waits : Waits by start left) → GoesOnFrom by left (any_drawn waits.shown) next → Ends by true (with_more piece next) end answer
-    → Ends by true (with_more piece start) end answer
+    → (waits : Waits by start left) → GoesOnFrom by left (any_drawn waits.shown) next → StepsEnd by true (with_more piece next) end answer
+    → StepsEnd by true (with_more piece start) end answer
 ends_once by start left next end piece answer no_hint waits goes ends = by_kind waits.shown waits.waits goes
   where
     w : Environment
@@ -234,7 +234,7 @@ ends_once by start left next end piece answer no_hint waits goes ends = by_kind 
     front = steps_more by start waits.found piece (steps_over by start waits.found waits.steps)
 
     -- steps, and then the end
-    ends_then : Steps by true (with_more piece start) (with_more piece next) → Ends by true (with_more piece start) end answer
+    ends_then : Steps by true (with_more piece start) (with_more piece next) → StepsEnd by true (with_more piece start) end answer
     ends_then there = record {
       found = ends.found;
       steps = steps_then by true (with_more piece start) (with_more piece next) ends.found there ends.steps;
@@ -251,11 +251,11 @@ ends_once by start left next end piece answer no_hint waits goes ends = by_kind 
     goes_alone false is next_is = subst (λ s. Steps by true (with_more piece start) (with_more piece s)) (sym next_is) front
 
     by_kind : (shown : List ItemShown) → WaitsIn by waits.found left.editor shown → GoesOnFrom by left (any_drawn shown) next
-        → Ends by true (with_more piece start) end answer
+        → StepsEnd by true (with_more piece start) end answer
     by_kind _ (steps.phrase reads begins short) goes =
         let here = goes_on by waits.found left next begins short reads waits.input waits.items waits.mode goes in
         ends_whole by no_hint waits.found piece reads begins here.cut here.left (with_more piece start) end answer front
-        (subst (λ s. Ends by true (with_more piece s) end answer) here.is ends)
+        (subst (λ s. StepsEnd by true (with_more piece s) end answer) here.is ends)
     by_kind _ (steps.alone takes none same) (inr anew) = absurd (let no = anew.0 in cc)
     by_kind _ (steps.alone takes none same) (inl is) =
         let here : left ≡ waits.found = stands left waits.found same waits.input waits.items waits.mode in
@@ -265,16 +265,16 @@ ends_once by start left next end piece answer no_hint waits goes ends = by_kind 
 -- the same of an end over several calls
 ends_over_calls : (by : Rules) (start left next end : Standing) (items piece : List Item) (drawn : Bool) (answer : Answer)
     → ((typed : KeyEvent) → KeyLooksAtNoHint by.keymap.bound typed)
-    → Waited by start items left drawn → GoesOnFrom by left drawn next → Ends by true (with_more piece next) end answer
-    → Ends by true (with_more (items ++ piece) start) end answer
+    → Waited by start items left drawn → GoesOnFrom by left drawn next → StepsEnd by true (with_more piece next) end answer
+    → StepsEnd by true (with_more (items ++ piece) start) end answer
 ends_over_calls by start left next end items piece drawn answer no_hint (pieces.first waits) goes ends =
     ends_once by start left next end piece answer no_hint waits goes ends
 ends_over_calls by start left' next' end items' piece' drawn' answer no_hint (pieces.again {items} {left} {next} {later} {drawn} piece waited goes waits) goes' ends =
     let once = ends_once by (with_more piece next) left' next' end piece' answer no_hint waits goes' ends in
-    let both : Ends by true (with_more (piece ++ piece') next) end answer =
-    subst (λ i. Ends by true (record next { items = i }) end answer) (append_assoc next.items piece piece') once in
+    let both : StepsEnd by true (with_more (piece ++ piece') next) end answer =
+    subst (λ i. StepsEnd by true (record next { items = i }) end answer) (append_assoc next.items piece piece') once in
     let whole = ends_over_calls by start left next end items (piece ++ piece') drawn answer no_hint waited goes both in
-    subst (λ i. Ends by true (with_more i start) end answer) (sym (append_assoc items piece piece')) whole
+    subst (λ i. StepsEnd by true (with_more i start) end answer) (sym (append_assoc items piece piece')) whole
 
 pub ends-same : EndsTheSame
 ends-same by start left next end items piece drawn answer no_hint waited goes ends =

@@ -6,7 +6,7 @@ use Rattle.line_keys.specs.Item.{Item}
 use Rattle.line_parts.specs.Environment.{Environment}
 use Rattle.line_screen.specs.KeyQueue.{Queued}
 use Rattle.line_editor.specs.Binding.{Bound}
-use Rattle.line_term.specs.Decoder.{Turn, finished, flushed, read}
+use Rattle.line_term.specs.Decoder.{DecoderTurn, finished, flushed, read}
 use Rattle.line_term.specs.Decoder as decoding
 use Rattle.line_session.specs.Sitting.{BeginsOrStays, BegunLine, Came, CameBegun, Keeps, LosesNothing, Sitting, with_turn}
 use Rattle.line_session.specs.declared.editor.Fed.{Fed}
@@ -15,7 +15,7 @@ use Rattle.line_session.specs.declared.editor.Heard.{Heard}
 use Rattle.line_session.specs.declared.editor.Heard.TheVariants as heard
 
 -- what bytes, a pause and the end of all bytes lead to
-abbrev pub turn_of : Heard → decoding.Standing → Turn
+abbrev pub turn_of : Heard → decoding.DecoderState → DecoderTurn
 turn_of (heard.Bytes bytes) standing = read standing bytes.now
 turn_of heard.Pause standing = flushed standing
 turn_of heard.End standing = finished standing
@@ -35,7 +35,7 @@ module _ {H : Type 0} (answers : H → List (List ℕ) → Environment) (bound :
     pub faults : FaultsOnly result
 
   -- a call read this of the terminal, and took turns: of the line that had begun, if one had; after a fault nothing is lost
-  pub record Feeds (turn : Turn) (old new : Sitting H) (result : Result Fed ReadlineError) : Type 0 where
+  pub record Feeds (turn : DecoderTurn) (old new : Sitting H) (result : Result Fed ReadlineError) : Type 0 where
     pub came : (begun : BegunLine) → old.line ≡ Some begun → IfOk result (Came answers bound (with_turn turn old) begun new)
     pub keeps : OnOk result (Keeps answers (with_turn turn old) new)
     pub idle : old.line ≡ None → IfOk result (λ f. (f ≡ fed.More) × (new ≡ with_turn turn old))

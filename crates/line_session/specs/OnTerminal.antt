@@ -8,7 +8,7 @@ use Rattle.line_keys.specs.ShownLine.{MayTrail}
 use Rattle.line_parts.specs.Environment.{Environment}
 use Rattle.line_screen.specs.Measure.{measured}
 use Rattle.line_term.specs.Shown.{EndsInRows, IsOnTerminal}
-use Rattle.line_session.specs.Searching.{search_of, search_prompt}
+use Rattle.line_session.specs.Searching.{search_value, search_prompt}
 use Rattle.line_session.specs.Sitting.{BegunLine, Sitting}
 use Rattle.line_session.specs.declared.mode.Mode.{Mode}
 use Rattle.line_session.specs.declared.mode.Mode.TheVariants as modes
@@ -36,7 +36,7 @@ module _ {O : Type 0} (contents : O → Option (List ℕ)) where
   -- once all items are read, after that of the search, with its hint. Of a list, and of a program that is suspended, nothing is said
   abbrev pub IsLineInModeOn : Mode → List Item → Environment → ℕ → O → List ℕ → Draft → Type 0
   IsLineInModeOn (modes.Searching searching) items environment columns out prompt draft =
-      items ≡ [] → IsLineOn columns out (search_prompt (search_of searching)) draft.line (hint_shown draft)
+      items ≡ [] → IsLineOn columns out (search_prompt (search_value searching)) draft.line (hint_shown draft)
   IsLineInModeOn (modes.Listing listing) items environment columns out prompt draft = Unit {0}
   IsLineInModeOn modes.Suspended items environment columns out prompt draft = Unit {0}
   IsLineInModeOn mode items environment columns out prompt draft =

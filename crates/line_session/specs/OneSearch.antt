@@ -4,7 +4,7 @@ use Rattle.line_keys.specs.Draft.{Draft}
 use Rattle.line_parts.specs.Environment.{Environment}
 use Rattle.line_parts.specs.declared.history.SearchDirection.{SearchDirection}
 use Rattle.line_editor.specs.Completing.{taken_back_once}
-use Rattle.line_session.specs.Searching.{GoesOn, Search, Searches, ShowsSearch, first_search, search_of}
+use Rattle.line_session.specs.Searching.{SearchGoesOn, Search, Searches, ShowsSearch, first_search, search_value}
 use Rattle.line_session.specs.declared.mode.Mode.{Mode}
 use Rattle.line_session.specs.declared.searching.SearchCmd.{SearchCmd}
 use Rattle.line_session.specs.declared.searching.SearchCmd.TheVariants.{GiveUp}
@@ -13,9 +13,9 @@ use Rattle.line_session.specs.declared.searching.SearchCmd.TheVariants.{GiveUp}
 pub data SearchedThrough (environment : Environment) (start : Draft) : Search → Draft → Type 0 where
   begun : {new : Draft} {mode : Mode} → (direction : SearchDirection)
       → (shows : ShowsSearch environment (first_search environment direction start) start new mode)
-      → SearchedThrough environment start (search_of shows.searching) new
+      → SearchedThrough environment start (search_value shows.searching) new
   on : {search : Search} {draft new : Draft} {mode : Mode} → SearchedThrough environment start search draft → (says : SearchCmd)
-      → (goes : GoesOn environment says search draft new mode) → SearchedThrough environment start (search_of goes.searching) new
+      → (goes : SearchGoesOn environment says search draft new mode) → SearchedThrough environment start (search_value goes.searching) new
 
 -- however a search went on, taking back the newest change, if the shown line is one, restores the text from before
 abbrev pub SearchIsOneChange : Type 0

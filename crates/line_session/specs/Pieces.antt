@@ -6,7 +6,7 @@ use Rattle.line_parts.specs.Shown.{Shown}
 use Rattle.line_editor.specs.Editor.{Answer, proceeds}
 use Rattle.line_editor.specs.ItemShown.{any_drawn}
 use Rattle.line_editor.specs.Keymap.{KeyLooksAtNoHint}
-use Rattle.line_session.specs.Steps.{Ends, Rules, Standing, Waits, starting}
+use Rattle.line_session.specs.Steps.{StepsEnd, Rules, Standing, Waits, starting}
 use Rattle.line_session.specs.declared.mode.Mode.TheVariants.{Editing}
 
 -- the same with more items after those that are left
@@ -35,11 +35,11 @@ pub data Waited (by : Rules) (start : Standing) : List Item → Standing → Boo
 abbrev pub EndsTheSame : Type 0
 EndsTheSame = (by : Rules) (start left next end : Standing) (items piece : List Item) (drawn : Bool) (answer : Answer)
     → ((typed : KeyEvent) → KeyLooksAtNoHint by.keymap.bound typed)
-    → Waited by start items left drawn → GoesOnFrom by left drawn next → Ends by false (with_more piece next) end answer
-    → Ends by true (with_more (items ++ piece) start) end answer
+    → Waited by start items left drawn → GoesOnFrom by left drawn next → StepsEnd by false (with_more piece next) end answer
+    → StepsEnd by true (with_more (items ++ piece) start) end answer
 
 -- from one start at which commands are read a line ends once, where the helper offers no candidates: its end and the answer are one
 abbrev pub EndsOnce : Type 0
 EndsOnce = (by : Rules) (over_calls : Bool) (start end end' : Standing) (answer answer' : Answer) → answer ≢ proceeds → answer' ≢ proceeds
     → ((shown : Shown) → by.environment.own_completion shown ≡ None) → start.mode ≡ Editing
-    → Ends by over_calls start end answer → Ends by over_calls start end' answer' → (end ≡ end') × (answer ≡ answer')
+    → StepsEnd by over_calls start end answer → StepsEnd by over_calls start end' answer' → (end ≡ end') × (answer ≡ answer')

@@ -21,15 +21,15 @@ use Rattle.line_session.specs.declared.editor.Fed.TheVariants as fed
 
 -- an input was read again and again: each time it gave bytes, or none as it paused, or none as it has ended; these are the items of all that
 -- was read, what the bytes leave, and what the input has left, where that is known
-pub data Heard (pauses : Bool) (input : Option (List ℕ)) (before : decoding.Standing) : Option (List ℕ) → List Item → decoding.Standing → Type 0 where
+pub data Heard (pauses : Bool) (input : Option (List ℕ)) (before : decoding.DecoderState) : Option (List ℕ) → List Item → decoding.DecoderState → Type 0 where
   nothing : Heard pauses input before input [] before
-  bytes : {at next : Option (List ℕ)} {items : List Item} {now : decoding.Standing} → Heard pauses input before at items now
+  bytes : {at next : Option (List ℕ)} {items : List Item} {now : decoding.DecoderState} → Heard pauses input before at items now
       → (piece : List ℕ) → Consumes at next piece
       → Heard pauses input before next (items ++ (decoding.read now piece).items) (decoding.read now piece).after
-  pause : {at next : Option (List ℕ)} {items : List Item} {now : decoding.Standing} → Heard pauses input before at items now
+  pause : {at next : Option (List ℕ)} {items : List Item} {now : decoding.DecoderState} → Heard pauses input before at items now
       → pauses ≡ true → Consumes at next []
       → Heard pauses input before next (items ++ (decoding.flushed now).items) (decoding.flushed now).after
-  end : {at next : Option (List ℕ)} {items : List Item} {now : decoding.Standing} → Heard pauses input before at items now
+  end : {at next : Option (List ℕ)} {items : List Item} {now : decoding.DecoderState} → Heard pauses input before at items now
       → pauses ≡ false → Consumes at next [] → IsAtEnd next
       → Heard pauses input before next (items ++ (decoding.finished now).items) (decoding.finished now).after
 
@@ -39,10 +39,10 @@ BindingsLookAtNoHint bound = (typed : KeyEvent) → KeyLooksAtNoHint bound typed
 
 -- what a line is answered with: itself, where it was submitted; that the person interrupted; or that the input ended, by a key or while the
 -- line goes on
-abbrev pub answer_of : Fed → Result (String Global) ReadlineError
-answer_of (fed.Submitted text) = Ok text
-answer_of fed.Interrupted = Err errors.Interrupted
-answer_of _ = Err errors.Eof
+abbrev pub readline_answer : Fed → Result (String Global) ReadlineError
+readline_answer (fed.Submitted text) = Ok text
+readline_answer fed.Interrupted = Err errors.Interrupted
+readline_answer _ = Err errors.Eof
 
 module _ {H : Type 0} where
   -- the line goes on after all these items: they arrived in pieces, and more are awaited
@@ -61,7 +61,7 @@ module _ {H : Type 0} where
 
   module _ (answers : H → List (List ℕ) → Environment) (bound : Bound) (pauses : Bool) where
     -- what became of a line that began after a prompt, with these texts before and after the cursor, over all that was read of the input
-    pub record Reads (input input' : Option (List ℕ)) (prompt left right : List ℕ) (old now : Sitting H) (came : Fed) : Type 0 where
+    pub record ReadsInput (input input' : Option (List ℕ)) (prompt left right : List ℕ) (old now : Sitting H) (came : Fed) : Type 0 where
       pub items : List Item
       pub heard : Heard pauses input old.decoder input' items now.decoder
       pub over : CameOver (rules_at answers bound old (measured old.columns prompt corner).col)
@@ -73,15 +73,15 @@ module _ {H : Type 0} where
     pub record ReadsLine (input input' : Option (List ℕ)) (prompt left right : List ℕ) (old new : Sitting H) (result : Result (String Global) ReadlineError) : Type 0 where
       pub came : Fed
       pub last : Sitting H
-      pub told : result ≡ answer_of came
-      pub reads : Reads input input' prompt left right old last came
+      pub told : result ≡ readline_answer came
+      pub reads : ReadsInput input input' prompt left right old last came
       pub ended : came ≡ fed.More → IsAtEnd input' × (suspends last ≡ false)
       pub gone : new ≡ record last { line = None }
 
     -- the input was read once, and this became of the line that had begun
     pub record HearsOnce (input input' : Option (List ℕ)) (old : Sitting H) (begun : BegunLine) (new : Sitting H) (told : Fed) : Type 0 where
-      pub turn : decoding.Turn
-      pub heard : {first : Option (List ℕ)} {before : decoding.Standing} {items : List Item} → Heard pauses first before input items old.decoder
+      pub turn : decoding.DecoderTurn
+      pub heard : {first : Option (List ℕ)} {before : decoding.DecoderState} {items : List Item} → Heard pauses first before input items old.decoder
           → Heard pauses first before input' (items ++ turn.items) turn.after
       pub came : Came answers bound (with_turn turn old) begun new told
       pub keeps : Keeps answers (with_turn turn old) new

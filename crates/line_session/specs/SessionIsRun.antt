@@ -9,7 +9,7 @@ use Rattle.line_editor.specs.Left.{left_by}
 use Rattle.line_editor.specs.Run as runs
 use Rattle.line_editor.specs.Run.{End, Run, dry, stopped}
 use Rattle.line_session.specs.Steps as steps
-use Rattle.line_session.specs.Steps.{Ends, Rules, Standing, Steps, Waits}
+use Rattle.line_session.specs.Steps.{StepsEnd, Rules, Standing, Steps, Waits}
 use Rattle.line_session.specs.declared.mode.Mode.TheVariants.{Editing}
 
 -- no command of a run that proceeds is one of those that are left to the program
@@ -39,7 +39,7 @@ RunsPlainly by start last input end =
 -- more items are awaited
 abbrev pub SessionPlainly : Rules → Bool → Standing → Editor → Input → End → Type 0
 SessionPlainly by over_calls start last input (stopped answer rest) =
-    (answer ≢ proceeds) × ((ended : Ends by over_calls start (reading_commands last input rest) answer) × StepsLeaveNone ended.steps)
+    (answer ≢ proceeds) × ((ended : StepsEnd by over_calls start (reading_commands last input rest) answer) × StepsLeaveNone ended.steps)
 SessionPlainly by over_calls start last input (dry items) =
     (waits : Waits by start (reading_commands last input items)) × StepsLeaveNone waits.steps
 

@@ -20,7 +20,7 @@ use Rattle.line_editor.specs.Released.{KeptDraft}
 use Rattle.line_editor.specs.declared.run.Turned.{Turned}
 use Rattle.line_editor.specs.declared.run.Turned.TheVariants as turned
 use Rattle.line_term.specs.Decoder as decoding
-use Rattle.line_session.specs.Steps.{Ends, Rules, Standing, Waits, is_suspended, starting, once_resized}
+use Rattle.line_session.specs.Steps.{StepsEnd, Rules, Standing, Waits, is_suspended, starting, once_resized}
 use Rattle.line_session.specs.declared.editor.Fed.{Fed}
 use Rattle.line_session.specs.declared.editor.Fed.TheVariants as fed
 use Rattle.line_session.specs.declared.mode.Mode.{Mode}
@@ -45,7 +45,7 @@ pub record Sitting (H : Type 0) : Type 0 where
   pub kills : Ring
   pub items : List Item
   pub binds : Bool
-  pub decoder : decoding.Standing
+  pub decoder : decoding.DecoderState
   pub helper : H
   pub settings : Settings
   pub columns : ℕ
@@ -60,12 +60,12 @@ abbrev pub suspends : {H : Type 0} → Sitting H → Bool
 suspends sitting = unwrap_or (option_map (λ (begun : BegunLine). is_suspended begun.mode) sitting.line) false
 
 -- the line that has begun is drawn before the next key is read
-abbrev pub drawn_anew : {H : Type 0} → Sitting H → Sitting H
-drawn_anew sitting = record sitting { line = option_map (λ (begun : BegunLine). record begun { draws = true }) sitting.line }
+abbrev pub to_be_drawn : {H : Type 0} → Sitting H → Sitting H
+to_be_drawn sitting = record sitting { line = option_map (λ (begun : BegunLine). record begun { draws = true }) sitting.line }
 
 -- all stays, but that the line may be drawn before the next key is read
 abbrev pub StaysOrDraws : {H : Type 0} → Sitting H → Sitting H → Type 0
-StaysOrDraws old new = (new ≡ old) ⊎ (new ≡ drawn_anew old)
+StaysOrDraws old new = (new ≡ old) ⊎ (new ≡ to_be_drawn old)
 
 -- nothing is lost where a call fails: the line that had begun is there, if one had, and so are the lines of the history
 pub record LosesNothing {H : Type 0} (old new : Sitting H) : Type 0 where
@@ -73,17 +73,17 @@ pub record LosesNothing {H : Type 0} (old new : Sitting H) : Type 0 where
   pub lines : new.lines ≡ old.lines
 
 -- the text of the line that has begun, if one has
-abbrev pub text_of : {H : Type 0} → Sitting H → Option (List ℕ)
-text_of sitting = option_map (λ (begun : BegunLine). begun.kept.draft.line.text) sitting.line
+abbrev pub line_text : {H : Type 0} → Sitting H → Option (List ℕ)
+line_text sitting = option_map (λ (begun : BegunLine). begun.kept.draft.line.text) sitting.line
 
 -- whether the line goes on after turns that ended so
-abbrev pub goes_on : Result Turned ReadlineError → Bool
-goes_on (Ok turned.Proceeds) = true
-goes_on (Ok turned.NeedsMore) = true
-goes_on _ = false
+abbrev pub line_goes_on : Result Turned ReadlineError → Bool
+line_goes_on (Ok turned.Proceeds) = true
+line_goes_on (Ok turned.NeedsMore) = true
+line_goes_on _ = false
 
 -- a turn of the bytes, a pause or the end among them: its items stand after those that are left
-abbrev pub with_turn : {H : Type 0} → decoding.Turn → Sitting H → Sitting H
+abbrev pub with_turn : {H : Type 0} → decoding.DecoderTurn → Sitting H → Sitting H
 with_turn turn sitting = record sitting { items = sitting.items ++ turn.items; decoder = turn.after }
 
 -- what commands are read and executed by: bindings, and whether the queue binds keys; the settings; the column where the prompt ends; and
@@ -119,21 +119,21 @@ first_standing left right old = standing_with (begun_with left right old.lines) 
 
 module _ {H : Type 0} where
   -- the line has ended by this answer: it is gone, and what is left are the items and the kill ring of its end
-  pub record EndsLine (by : Rules) (over_calls : Bool) (start : Standing) (new : Sitting H) (answer : Answer) : Type 0 where
+  pub record LineHasEnded (by : Rules) (over_calls : Bool) (start : Standing) (new : Sitting H) (answer : Answer) : Type 0 where
     pub end : Standing
-    pub ends : Ends by over_calls start end answer
+    pub ends : StepsEnd by over_calls start end answer
     pub gone : new.line ≡ None
     pub kills : new.kills ≡ end.editor.kills
     pub items : new.items ≡ end.items
 
   -- the line was submitted with this text, which is in the history where the settings say so
   pub record SubmitsLine (by : Rules) (over_calls : Bool) (start : Standing) (old new : Sitting H) (text : List ℕ) : Type 0 where
-    pub ends : EndsLine by over_calls start new submitted
+    pub ends : LineHasEnded by over_calls start new submitted
     pub text_left : text ≡ ends.end.editor.draft.line.text
     pub lines : new.lines ≡ (if old.settings.auto_add_history then added old.takes old.lines text else old.lines)
 
   -- the line goes on: more items are awaited, and it is drawn anew only where something was drawn of those that are no phrase yet
-  pub record GoesOn (by : Rules) (start : Standing) (new : Sitting H) : Type 0 where
+  pub record LineGoesOn (by : Rules) (start : Standing) (new : Sitting H) : Type 0 where
     pub left : BegunLine
     pub line : new.line ≡ Some left
     pub waits : Waits by start (standing_with left.kept.draft left.input left.mode new.items new.kills)
@@ -142,21 +142,21 @@ module _ {H : Type 0} where
 
   -- what became of a line whose turns were taken, in a call or over several, from where the first one began
   abbrev pub CameFrom : Rules → Bool → Standing → Sitting H → Sitting H → Fed → Type 0
-  CameFrom by over_calls start old new fed.More = GoesOn by start new × (new.lines ≡ old.lines)
+  CameFrom by over_calls start old new fed.More = LineGoesOn by start new × (new.lines ≡ old.lines)
   CameFrom by over_calls start old new (fed.Submitted text) = SubmitsLine by over_calls start old new (string_bytes text)
-  CameFrom by over_calls start old new fed.Ended = EndsLine by over_calls start new ended × (new.lines ≡ old.lines)
-  CameFrom by over_calls start old new fed.Interrupted = EndsLine by over_calls start new interrupted × (new.lines ≡ old.lines)
+  CameFrom by over_calls start old new fed.Ended = LineHasEnded by over_calls start new ended × (new.lines ≡ old.lines)
+  CameFrom by over_calls start old new fed.Interrupted = LineHasEnded by over_calls start new interrupted × (new.lines ≡ old.lines)
 
   -- the line that has begun ends as its last command says: it goes on; it is submitted with its text, which is in the history where the
   -- settings say so; or it is dropped
-  abbrev pub EndsAs : Result Turned ReadlineError → Sitting H → Sitting H → Fed → Type 0
-  EndsAs done old new fed.More = (goes_on done ≡ true) × (new ≡ old)
-  EndsAs done old new (fed.Submitted text) = (done ≡ Ok turned.Submitted) × (Some (string_bytes text) ≡ text_of old) × (new ≡ record old {
+  abbrev pub LineEndsAs : Result Turned ReadlineError → Sitting H → Sitting H → Fed → Type 0
+  LineEndsAs done old new fed.More = (line_goes_on done ≡ true) × (new ≡ old)
+  LineEndsAs done old new (fed.Submitted text) = (done ≡ Ok turned.Submitted) × (Some (string_bytes text) ≡ line_text old) × (new ≡ record old {
     line = None;
     lines = if old.settings.auto_add_history then added old.takes old.lines (string_bytes text) else old.lines;
   })
-  EndsAs done old new fed.Ended = (done ≡ Ok turned.Ended) × (new ≡ record old { line = None })
-  EndsAs done old new fed.Interrupted = (done ≡ Ok turned.Interrupted) × (new ≡ record old { line = None })
+  LineEndsAs done old new fed.Ended = (done ≡ Ok turned.Ended) × (new ≡ record old { line = None })
+  LineEndsAs done old new fed.Interrupted = (done ≡ Ok turned.Interrupted) × (new ≡ record old { line = None })
 
   module _ (answers : H → List (List ℕ) → Environment) where
     module _ (bound : Bound) where

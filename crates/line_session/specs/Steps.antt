@@ -24,7 +24,7 @@ use Rattle.line_editor.specs.Step.{step}
 use Rattle.line_editor.specs.declared.left.Left.{Left}
 use Rattle.line_editor.specs.declared.left.Left.TheVariants as lefts
 use Rattle.line_session.specs.Completing.{BeginsCompletion, GivesUp, GoesOnTo, Lists, Replies, index_before, index_behind, reply_by}
-use Rattle.line_session.specs.Searching.{BeginsSearch, Search, Searches, search_cmd, search_of}
+use Rattle.line_session.specs.Searching.{BeginsSearch, Search, Searches, search_cmd, search_value}
 use Rattle.line_session.specs.declared.mode.Mode.{Mode}
 use Rattle.line_session.specs.declared.mode.Mode.TheVariants as modes
 use Rattle.line_session.specs.declared.searching.SearchCmd.{SearchCmd}
@@ -83,29 +83,29 @@ once_resized modes.Suspended = modes.Editing
 once_resized mode = mode
 
 -- what the program does about what a command left to it: to the draft, and to what the next items are read as
-abbrev pub Answers : Settings → Environment → Option Left → Mode → Draft → Draft → Mode → Type 0
-Answers settings environment (Some lefts.QuotedInsert) mode old new next = (new ≡ old) × (next ≡ modes.Quoting)
-Answers settings environment (Some lefts.Complete) (modes.Completing going) old new next =
+abbrev pub AnswersCommand : Settings → Environment → Option Left → Mode → Draft → Draft → Mode → Type 0
+AnswersCommand settings environment (Some lefts.QuotedInsert) mode old new next = (new ≡ old) × (next ≡ modes.Quoting)
+AnswersCommand settings environment (Some lefts.Complete) (modes.Completing going) old new next =
     GoesOnTo environment going (index_behind going) old new next
-Answers settings environment (Some lefts.Complete) (modes.Offering candidates) old new next =
+AnswersCommand settings environment (Some lefts.Complete) (modes.Offering candidates) old new next =
     Lists settings environment candidates old new next
-Answers settings environment (Some lefts.Complete) mode old new next = BeginsCompletion settings environment old new next
-Answers settings environment (Some lefts.CompleteBackward) (modes.Completing going) old new next =
+AnswersCommand settings environment (Some lefts.Complete) mode old new next = BeginsCompletion settings environment old new next
+AnswersCommand settings environment (Some lefts.CompleteBackward) (modes.Completing going) old new next =
     GoesOnTo environment going (index_before going) old new next
-Answers settings environment (Some lefts.Abort) (modes.Completing going) old new next = GivesUp environment going old new next
-Answers settings environment (Some lefts.ReverseSearchHistory) mode old new next = BeginsSearch environment Reverse old new next
-Answers settings environment (Some lefts.ForwardSearchHistory) mode old new next = BeginsSearch environment Forward old new next
-Answers settings environment (Some lefts.Suspend) mode old new next = (new ≡ old) × (next ≡ modes.Suspended)
-Answers settings environment left mode old new next = (new ≡ old) × (next ≡ modes.Editing)
+AnswersCommand settings environment (Some lefts.Abort) (modes.Completing going) old new next = GivesUp environment going old new next
+AnswersCommand settings environment (Some lefts.ReverseSearchHistory) mode old new next = BeginsSearch environment Reverse old new next
+AnswersCommand settings environment (Some lefts.ForwardSearchHistory) mode old new next = BeginsSearch environment Forward old new next
+AnswersCommand settings environment (Some lefts.Suspend) mode old new next = (new ≡ old) × (next ≡ modes.Suspended)
+AnswersCommand settings environment left mode old new next = (new ≡ old) × (next ≡ modes.Editing)
 
 -- the same after a turn with this answer: the program does something where it proceeds, and else nothing is under way any more
 abbrev pub AnswersTurn : Rules → Answer → Option Left → Mode → Editor → Editor → Mode → Type 0
 AnswersTurn by proceeds left mode old new next =
-    Answers by.settings by.environment left mode old.draft new.draft next × (new.kills ≡ old.kills)
+    AnswersCommand by.settings by.environment left mode old.draft new.draft next × (new.kills ≡ old.kills)
 AnswersTurn by _ left mode old new next = (new ≡ old) × (next ≡ modes.Editing)
 
 -- a command is executed, and then what it left is done
-pub record Executes (by : Rules) (mode : Mode) (command : Command) (input : Input) (found new : Editor) (next : Mode) (answer : Answer) : Type 0 where
+pub record ExecutesAndAnswers (by : Rules) (mode : Mode) (command : Command) (input : Input) (found new : Editor) (next : Mode) (answer : Answer) : Type 0 where
   pub executed : Editor
   pub leaves : Leaves (step by.ruler by.environment input found command) executed answer
   pub answers : AnswersTurn by answer (left_by command) mode executed new next
@@ -115,13 +115,13 @@ abbrev pub DoesInSearch : Rules → Search → Option SearchCmd → Command → 
 DoesInSearch by search (Some says) command input found new next answer =
     (answer ≡ proceeds) × (new.kills ≡ found.kills) × Searches by.environment search says found.draft new.draft next
 DoesInSearch by search None command input found new next answer =
-    Executes by modes.Editing command input (once_drawn by.environment found) new next answer
+    ExecutesAndAnswers by modes.Editing command input (once_drawn by.environment found) new next answer
 
 -- what a command does that is read in a mode
-abbrev pub DoesCommand : Rules → Mode → Command → Input → Editor → Editor → Mode → Answer → Type 0
-DoesCommand by (modes.Searching searching) command input found new next answer =
-    DoesInSearch by (search_of searching) (search_cmd command) command input found new next answer
-DoesCommand by mode command input found new next answer = Executes by mode command input found new next answer
+abbrev pub DoesInMode : Rules → Mode → Command → Input → Editor → Editor → Mode → Answer → Type 0
+DoesInMode by (modes.Searching searching) command input found new next answer =
+    DoesInSearch by (search_value searching) (search_cmd command) command input found new next answer
+DoesInMode by mode command input found new next answer = ExecutesAndAnswers by mode command input found new next answer
 
 -- a turn leads from one standing to another, with this answer: the items begin with a phrase, and its command is done
 pub record TurnFrom (by : Rules) (from to : Standing) (answer : Answer) : Type 0 where
@@ -131,7 +131,7 @@ pub record TurnFrom (by : Rules) (from to : Standing) (answer : Answer) : Type 0
   pub cut : from.items ≡ phrase ++ to.items
   pub comes : Phrase by.keymap by.environment from.editor.draft from.input phrase read
   pub input_left : to.input ≡ read.input
-  pub does : DoesCommand by from.mode read.command read.input (ready read.command read.draft from.editor.kills) to.editor to.mode answer
+  pub does : DoesInMode by from.mode read.command read.input (ready read.command read.draft from.editor.kills) to.editor to.mode answer
 
 -- the control character that a key with Ctrl stands for, by the character that it is named for: 64 places before it
 abbrev pub control_character : ℕ → Option ℕ
@@ -176,8 +176,8 @@ comes_in mode (paste text) = true
 comes_in mode (key typed) = reads_no_command mode
 
 -- an item is put in as it is
-abbrev pub ComesIn : Rules → Input → Item → Editor → Editor → Type 0
-ComesIn by input item old new =
+abbrev pub PutsAsItIs : Rules → Input → Item → Editor → Editor → Type 0
+PutsAsItIs by input item old new =
     Leaves (step by.ruler by.environment input (ready (as_it_is item) old.draft old.kills) (as_it_is item)) new proceeds
 
 -- what an item does that is taken by itself: it answers a list, or is put in as it is, which ends a search
@@ -185,8 +185,8 @@ abbrev pub DoesItem : Rules → Input → Mode → Item → Editor → Editor �
 DoesItem by input (modes.Listing listing) item old new next =
     Replies by.environment listing (reply_by listing.next item) old.draft new.draft next × (new.kills ≡ old.kills)
 DoesItem by input (modes.Searching searching) item old new next =
-    ComesIn by input item (once_drawn by.environment old) new × (next ≡ modes.Editing)
-DoesItem by input mode item old new next = ComesIn by input item old new × (next ≡ modes.Editing)
+    PutsAsItIs by input item (once_drawn by.environment old) new × (next ≡ modes.Editing)
+DoesItem by input mode item old new next = PutsAsItIs by input item old new × (next ≡ modes.Editing)
 
 -- an item is taken by itself
 pub record ItemTaken (by : Rules) (from to : Standing) : Type 0 where
@@ -210,7 +210,7 @@ pub data Steps (by : Rules) (over_calls : Bool) (start : Standing) : Standing �
   resume : {found next : Standing} → over_calls ≡ true → Steps by over_calls start found → Resumed by found next → Steps by over_calls start next
 
 -- steps, and after them a turn with this answer, lead from a start to an end
-pub record Ends (by : Rules) (over_calls : Bool) (start end : Standing) (answer : Answer) : Type 0 where
+pub record StepsEnd (by : Rules) (over_calls : Bool) (start end : Standing) (answer : Answer) : Type 0 where
   pub found : Standing
   pub steps : Steps by over_calls start found
   pub last : TurnFrom by found end answer

@@ -18,7 +18,7 @@ use Rattle.line_editor.specs.Step.{step}
 use Rattle.line_editor.specs.declared.run.Turned.{Turned}
 use Rattle.line_editor.specs.declared.run.Turned.TheVariants as turned
 use Rattle.line_session.specs.Kept.{IsShownBy, IsShownByMode, IsShownWithItems}
-use Rattle.line_session.specs.Steps.{Ends, NoneComesIn, Rules, Standing, TurnFrom, Waits, as_it_is, comes_in, shows_line, starting}
+use Rattle.line_session.specs.Steps.{StepsEnd, NoneComesIn, Rules, Standing, TurnFrom, Waits, as_it_is, comes_in, shows_line, starting}
 use Rattle.line_session.specs.declared.mode.AsItIs.{AsItIs}
 use Rattle.line_session.specs.declared.mode.AsItIs.TheVariants as as_is
 use Rattle.line_session.specs.Completing.{Replies, reply_by}
@@ -35,17 +35,17 @@ abbrev pub is_settled : Mode → Bool → Bool
 is_settled mode own_prompt = if shows_line mode then own_prompt else true
 
 -- how turns end that were taken in a call: with the answer of the last one; or where more items are awaited
-abbrev pub ComesTo : Bool → Rules → Standing → Standing → Turned → Type 0
-ComesTo settled by start end turned.Proceeds = ⊥
-ComesTo settled by start end turned.Submitted = Ends by false start end submitted
-ComesTo settled by start end turned.Ended = Ends by false start end ended
-ComesTo settled by start end turned.Interrupted = Ends by false start end interrupted
-ComesTo settled by start end turned.NeedsMore = WaitsBehind settled by start end
+abbrev pub TurnsComeTo : Bool → Rules → Standing → Standing → Turned → Type 0
+TurnsComeTo settled by start end turned.Proceeds = ⊥
+TurnsComeTo settled by start end turned.Submitted = StepsEnd by false start end submitted
+TurnsComeTo settled by start end turned.Ended = StepsEnd by false start end ended
+TurnsComeTo settled by start end turned.Interrupted = StepsEnd by false start end interrupted
+TurnsComeTo settled by start end turned.NeedsMore = WaitsBehind settled by start end
 
 -- an item that is put in as it is, as the reader returns it
-abbrev pub item_of : AsItIs → Item
-item_of (as_is.Key typed) = key typed
-item_of (as_is.Text text) = paste (string_bytes text)
+abbrev pub item_as_it_is : AsItIs → Item
+item_as_it_is (as_is.Key typed) = key typed
+item_as_it_is (as_is.Text text) = paste (string_bytes text)
 
 -- the next item was taken, where it is taken by itself; and none where it is read as part of a command, or nothing is left
 abbrev pub TakesAsItIs : Mode → Option Item → List Item → List Item → Type 0
@@ -54,8 +54,8 @@ TakesAsItIs mode None old new = NoneComesIn mode old × (new ≡ old)
 
 module _ {X : Type 0} (e : editors.Ghosts X) where
   -- the line is shown, and the kept layout is right
-  abbrev pub IsShown : X → Type 0
-  IsShown state = IsShownBy (e.environment state) (e.display state) (e.draft state)
+  abbrev pub IsLineShown : X → Type 0
+  IsLineShown state = IsShownBy (e.environment state) (e.display state) (e.draft state)
 
   -- the line is shown as it is in a mode
   abbrev pub IsShownIn : Mode → X → Type 0
@@ -106,8 +106,8 @@ module _ {X : Type 0} (e : editors.Ghosts X) where
 
 module _ {X Y : Type 0} (e : editors.Ghosts X) (r : readers.Ghosts Y) where
   -- what the commands of a session are read and executed by
-  abbrev pub rules_of : Settings → Session X Y → Rules
-  rules_of settings session =
+  abbrev pub session_rules : Settings → Session X Y → Rules
+  session_rules settings session =
       rules_by e (keymap_of session.keys (r.own_binding (r.kept session.reader))) settings session.state
 
   -- what stays of a session while turns are taken: what commands are read and executed by, and what no command changes of the editor
@@ -130,13 +130,13 @@ module _ {X Y : Type 0} (e : editors.Ghosts X) (r : readers.Ghosts Y) where
   abbrev pub TakesOne : Settings → Mode → Session X Y → Turned → Mode → Session X Y → Type 0
   TakesOne settings mode before turned.NeedsMore next after = NeedsMoreItems e r before after × (next ≡ mode)
   TakesOne settings mode before turned.Proceeds next after =
-      TurnFrom (rules_of settings before) (standing_of mode before) (standing_of next after) proceeds
+      TurnFrom (session_rules settings before) (standing_of mode before) (standing_of next after) proceeds
   TakesOne settings mode before turned.Submitted next after =
-      TurnFrom (rules_of settings before) (standing_of mode before) (standing_of next after) submitted × (next ≡ modes.Editing)
+      TurnFrom (session_rules settings before) (standing_of mode before) (standing_of next after) submitted × (next ≡ modes.Editing)
   TakesOne settings mode before turned.Ended next after =
-      TurnFrom (rules_of settings before) (standing_of mode before) (standing_of next after) ended × (next ≡ modes.Editing)
+      TurnFrom (session_rules settings before) (standing_of mode before) (standing_of next after) ended × (next ≡ modes.Editing)
   TakesOne settings mode before turned.Interrupted next after =
-      TurnFrom (rules_of settings before) (standing_of mode before) (standing_of next after) interrupted × (next ≡ modes.Editing)
+      TurnFrom (session_rules settings before) (standing_of mode before) (standing_of next after) interrupted × (next ≡ modes.Editing)
 
   -- where the steps of a call begin that finds a session in a mode
   abbrev pub start_of : Bool → Mode → Session X Y → Standing

@@ -2,7 +2,7 @@
 ghost use Rattle.std.specs.Prelude.{IsCharBoundary, ◌≡◌, ◌<◌, ℕ, List, None, Ok, Some, false, true, length, not, IfOk, OnErr, OnOk, if◌then◌else◌, string_bytes};
 ghost use Rattle.line_config.specs.Error.{FaultsOnly, MemoryOnly};
 ghost use Rattle.line_editor.specs.Binding.{bound_of};
-ghost use Rattle.line_editor.specs.Editor.{Begins};
+ghost use Rattle.line_editor.specs.Editor.{EditorBegins};
 ghost use Rattle.line_editor.specs.Input.{first_input};
 ghost use Rattle.line_editor.specs.InputState.{remembered_input};
 ghost use Rattle.line_buffer.specs.Changes.{no_changes};
@@ -13,10 +13,10 @@ ghost use Rattle.line_keys.specs.Draft.{empty_draft};
 ghost use Rattle.line_parts.specs.Helped.{environment_by, sure_by};
 ghost use Rattle.line_parts.specs.History.{added};
 ghost use Rattle.line_screen.specs.KeyQueue.{queue_binding};
-ghost use Rattle.line_session.specs.Kept.{Fits, answers_of};
+ghost use Rattle.line_session.specs.Kept.{FitsScreen, answers_of};
 ghost use Rattle.line_session.specs.Sitting.{line_with, rules_for, standing_with};
 ghost use Rattle.line_session.specs.Steps.{starting, once_resized};
-ghost use Rattle.line_session.specs.Taken.{ComesTo, is_settled};
+ghost use Rattle.line_session.specs.Taken.{TurnsComeTo, is_settled};
 
 use crate::modal::{Line, Modal};
 use crate::mode::Mode;
@@ -132,7 +132,7 @@ pub(crate) fn begin<'out, 'prompt, O: Write + Drop, H: Helper, S: History>(
     edited: EditedLine,
     config: &Config,
 ) -> Begun<H>
-    ensures fits { (items : List Item) → Fits result.line result.mode result.draws items
+    ensures fits { (items : List Item) → FitsScreen result.line result.mode result.draws items
         (⟦<Ansi<O, KeyQueue> as ScreenState>⟧.surface screen.new)
         (⟦<Ansi<O, KeyQueue> as ScreenState>⟧.screen screen.new) (string_bytes prompt.now.0)
         (answers_of H.hint_at H.verdict_at H.lights H.Completer
@@ -177,7 +177,7 @@ fn state_of<'out, 'prompt, O: Write + Drop, H: Helper, P: Prompt, S: History>(
 ) -> Line<'out, 'prompt, O, H, P, S>
     ensures { let e = ⟦<Line<'out, 'prompt, O, H, P, S> as EditorState>⟧ in
         let w = ⟦<Ansi<O, KeyQueue> as ScreenState>⟧ in
-        Begins e result
+        EditorBegins e result
         (record (empty_draft (length (S.lines history.now))) {
           line = edited.line;
           changes = edited.changes;
@@ -208,12 +208,13 @@ impl<H: Helper> Begun<H> {
         rows: Unit,
     ) -> (Begun<H>, Result<()>)
         requires columns { 0 < columns }
-        requires fits { (items : List Item) × Fits self.line self.mode self.draws items
+        requires fits { (items : List Item) × FitsScreen self.line self.mode self.draws items
             (⟦<Ansi<O, KeyQueue> as ScreenState>⟧.surface screen.old)
             (⟦<Ansi<O, KeyQueue> as ScreenState>⟧.screen screen.old) (string_bytes prompt.now.0)
             (answers_of H.hint_at H.verdict_at H.lights H.Completer
             helper.old (S.lines history.now)) }
-        ensures fits { (items : List Item) → Fits result.0.line result.0.mode result.0.draws items
+        ensures fits { (items : List Item)
+            → FitsScreen result.0.line result.0.mode result.0.draws items
             (⟦<Ansi<O, KeyQueue> as ScreenState>⟧.surface screen.new)
             (⟦<Ansi<O, KeyQueue> as ScreenState>⟧.screen screen.new) (string_bytes prompt.now.0)
             (answers_of H.hint_at H.verdict_at H.lights H.Completer
@@ -264,12 +265,12 @@ impl<H: Helper> Begun<H> {
         kill_ring: &mut KillRing,
         config: &Config,
     ) -> (Begun<H>, Result<Turned>)
-        requires { Fits self.line self.mode self.draws keys.old.rest
+        requires { FitsScreen self.line self.mode self.draws keys.old.rest
             (⟦<Ansi<O, KeyQueue> as ScreenState>⟧.surface screen.old)
             (⟦<Ansi<O, KeyQueue> as ScreenState>⟧.screen screen.old) (string_bytes prompt.now.0)
             (answers_of H.hint_at H.verdict_at H.lights H.Completer
             helper.old (S.lines history.now)) }
-        ensures fits { Fits result.0.line result.0.mode result.0.draws keys.new.rest
+        ensures fits { FitsScreen result.0.line result.0.mode result.0.draws keys.new.rest
             (⟦<Ansi<O, KeyQueue> as ScreenState>⟧.surface screen.new)
             (⟦<Ansi<O, KeyQueue> as ScreenState>⟧.screen screen.new) (string_bytes prompt.now.0)
             (answers_of H.hint_at H.verdict_at H.lights H.Completer
@@ -277,7 +278,7 @@ impl<H: Helper> Begun<H> {
         ensures comes { let g = C.ConditionalEventHandler in
             let lines = S.lines history.now in
             let asked = answers_of H.hint_at H.verdict_at H.lights H.Completer helper.old lines in
-            IfOk result.1 (ComesTo (not result.0.draws)
+            IfOk result.1 (TurnsComeTo (not result.0.draws)
             (rules_for (bound_of g bindings.now) keys.old.binds
             config.now self.line.drawing.prompt_end.col asked)
             (starting asked self.draws

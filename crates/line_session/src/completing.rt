@@ -4,8 +4,8 @@ ghost use Rattle.line_config.specs.Error.{FaultsOnly, MemoryOnly};
 ghost use Rattle.line_editor.specs.Completing.{taken_back_once};
 ghost use Rattle.line_keys.specs.Frame.{Frame};
 ghost use Rattle.line_parts.specs.Candidate.{offer_of, pair_offer};
-ghost use Rattle.line_session.specs.Completing.{Agree, BeginsCompletion, Elects, GivesUp, GoesOnTo, PutsInCommon, Shows, index_before, index_behind};
-ghost use Rattle.line_session.specs.Taken.{IsShown, IsShownIn};
+ghost use Rattle.line_session.specs.Completing.{Agree, BeginsCompletion, Elects, GivesUp, GoesOnTo, PutsInCommon, ShowsCandidate, index_before, index_behind};
+ghost use Rattle.line_session.specs.Taken.{IsLineShown, IsShownIn};
 
 use crate::listing::list;
 use crate::modal::Modal;
@@ -45,7 +45,7 @@ impl Drop for Completing {
 /// # Errors
 /// Those of the helper and of the output: `Io` and `Memory`.
 pub(crate) fn complete<E: Modal>(state: &mut E, config: &Config) -> Result<Mode>
-    requires { IsShown E.EditorState state.old }
+    requires { IsLineShown E.EditorState state.old }
     ensures begins { IfOk result (BeginsCompletion config.now (E.environment state.old)
         (E.draft state.old) (E.draft state.new)) }
     ensures shown { IfOk result (λ mode. IsShownIn E.EditorState mode state.new) }
@@ -113,7 +113,7 @@ fn complete_in_common<E: Modal>(
     state: &mut E,
     config: &Config,
 ) -> Result<Mode>
-    requires { IsShown E.EditorState state.old }
+    requires { IsLineShown E.EditorState state.old }
     ensures puts { IfOk result (PutsInCommon config.now (E.environment state.old) start candidates
         (E.draft state.old) (E.draft state.new)) }
     ensures shown { IfOk result (λ mode. IsShownIn E.EditorState mode state.new) }
@@ -133,10 +133,10 @@ fn complete_in_common<E: Modal>(
 
 /// Puts in what candidates begin with in common, where that is longer than what stands there, or all of the only one.
 fn agree<E: Modal>(start: usize, candidates: &[Pair], state: &mut E) -> Result<()>
-    requires { IsShown E.EditorState state.old }
+    requires { IsLineShown E.EditorState state.old }
     ensures agree { OnOk result (Agree (E.environment state.old) start candidates.now
         (E.draft state.old) (E.draft state.new)) }
-    ensures shown { OnOk result (IsShown E.EditorState state.new) }
+    ensures shown { OnOk result (IsLineShown E.EditorState state.new) }
     ensures frame { Frame E.EditorState state.old state.new }
     ensures faults { FaultsOnly result }
 {
@@ -160,7 +160,7 @@ fn is_put_in(cursor: usize, start: usize, common: &str, count: usize) -> bool
 fn elect<E: Modal>(start: usize, elected: &str, state: &mut E) -> Result<bool>
     ensures elects { IfOk result (λ grown. Elects (E.environment state.old) start elected.now grown
         (E.draft state.old) (E.draft state.new)) }
-    ensures shown { OnOk result (IsShown E.EditorState state.new) }
+    ensures shown { OnOk result (IsLineShown E.EditorState state.new) }
     ensures frame { Frame E.EditorState state.old state.new }
     ensures faults { FaultsOnly result }
 {
@@ -264,10 +264,10 @@ fn take_back<E: Modal>(grown: bool, state: &mut E) -> Result<()>
 
 /// Shows a candidate, or, with a beep, the line as it is. Returns whether the changes have grown by it.
 fn show<E: Modal>(start: usize, candidate: Option<&Pair>, state: &mut E) -> Result<bool>
-    ensures shows { IfOk result (λ grown. Shows (E.environment state.old) start
+    ensures shows { IfOk result (λ grown. ShowsCandidate (E.environment state.old) start
         (option_map (λ pair. pair.now) candidate.entry) grown (E.draft state.old)
         (E.draft state.new)) }
-    ensures shown { OnOk result (IsShown E.EditorState state.new) }
+    ensures shown { OnOk result (IsLineShown E.EditorState state.new) }
     ensures frame { Frame E.EditorState state.old state.new }
     ensures faults { FaultsOnly result }
 {

@@ -6,11 +6,11 @@ ghost use Rattle.line_editor.specs.Binding.{bound_of};
 ghost use Rattle.line_parts.specs.History.{TellsTaken, added};
 ghost use Rattle.line_session.specs.Kept.{answers_of};
 ghost use Rattle.line_session.specs.OnTerminal.{ShowsBegun};
-ghost use Rattle.line_session.specs.Reading.{BindingsLookAtNoHint, HearsOnce, ReadsLine, answer_of};
+ghost use Rattle.line_session.specs.Reading.{BindingsLookAtNoHint, HearsOnce, ReadsLine, readline_answer};
 ghost use Rattle.line_session.specs.Heard.{AddsItems, BeginsReading, Feeds, turn_of};
-ghost use Rattle.line_session.specs.Sitting.{BeginsOrStays, BegunLine, Came, CameBegun, EndsAs, Keeps, LosesNothing, StartsWith, StaysOrDraws, drawn_anew, suspends, with_turn, written_so_far};
+ghost use Rattle.line_session.specs.Sitting.{BeginsOrStays, BegunLine, Came, CameBegun, LineEndsAs, Keeps, LosesNothing, StartsWith, StaysOrDraws, to_be_drawn, suspends, with_turn, written_so_far};
 ghost use Rattle.line_buffer.specs.KillRing.{empty_ring};
-ghost use Rattle.line_term.specs.Decoder.{Gives, finished, flushed, fresh, is_waiting, read};
+ghost use Rattle.line_term.specs.Decoder.{Enqueues, finished, flushed, fresh, is_waiting, read};
 
 use crate::begun::{Begun, add, begin, copied_prompt, draw_anew, line_of};
 use line_buffer::{KillRing, Unit};
@@ -96,7 +96,7 @@ impl<O: Write + Drop, H: Helper + Drop, S: History + Drop> Model for Editor<O, H
     ghost use Rattle.line_buffer.specs.declared.layout.GraphemeClusterMode.TheVariants.{Unicode};
     ghost use Rattle.line_editor.specs.InputState.{remembered_input};
     ghost use Rattle.line_screen.specs.Measure.{measured};
-    ghost use Rattle.line_session.specs.Kept.{Fits, answers_of};
+    ghost use Rattle.line_session.specs.Kept.{FitsScreen, answers_of};
     ghost use Rattle.line_session.specs.Sitting.{Sitting};
     ghost use Rattle.line_term.specs.Shown.{known_screen};
 
@@ -123,7 +123,8 @@ impl<O: Write + Drop, H: Helper + Drop, S: History + Drop> Model for Editor<O, H
     } };
 
     // The line that has begun fits the screen, its prompt, and those who answer.
-    ghost invariant = { λ e. IfSome e.line (λ begun. Fits begun.line begun.mode begun.draws e.keys.rest
+    ghost invariant = { λ e. IfSome e.line (λ begun.
+        FitsScreen begun.line begun.mode begun.draws e.keys.rest
         (record {
           measure = measured e.screen.shown.columns;
           columns = e.screen.shown.columns;
@@ -288,7 +289,7 @@ impl<O: Write + Drop, H: Helper + Drop, S: History + Drop> Editor<O, H, S> {
     /// Writes to `out` from now on, and draws the line that has begun at the next call. Returns what was written to before, which shows
     /// what `out` says.
     pub fn replace_out(&mut self, out: O) -> O
-        ensures stays { self.new ≡ drawn_anew self.old }
+        ensures stays { self.new ≡ to_be_drawn self.old }
         ensures shown { ShowsBegun O.contents
             (answers_of H.hint_at H.verdict_at H.lights H.Completer) self.old result }
     {
@@ -426,7 +427,7 @@ impl<O: Write + Drop, H: Helper + Drop, S: History + Drop> Editor<O, H, S> {
     /// `Io`, where the output fails. The line goes on then, and is drawn at the next call.
     pub fn abandon(&mut self) -> Result<()>
         ensures gone { OnOk result (self.new ≡ record self.old { line = None }) }
-        ensures kept { OnErr result (self.new ≡ drawn_anew self.old) }
+        ensures kept { OnErr result (self.new ≡ to_be_drawn self.old) }
         ensures faults { FaultsOnly result }
     {
         if self.line.is_none() {
@@ -540,7 +541,7 @@ impl<O: Write + Drop, H: Helper + Drop, S: History + Drop> Editor<O, H, S> {
     /// `Eof`, where the line goes on or ended; `Interrupted`; and `Io` and `Memory`, where bracketed paste cannot be turned off. The
     /// line then goes on.
     fn answered(&mut self, fed: Fed) -> Result<String>
-        ensures { UnlessFault result ((result ≡ answer_of fed)
+        ensures { UnlessFault result ((result ≡ readline_answer fed)
             × (self.new ≡ record self.old { line = None })) }
     {
         match fed {
@@ -621,7 +622,7 @@ impl<O: Write + Drop, H: Helper + Drop, S: History + Drop> Editor<O, H, S> {
     /// `Io`, where the output fails. The line that has begun is drawn at the next call then.
     fn ask_for_paste_marks(&mut self) -> Result<()>
         ensures stays { OnOk result (self.new ≡ self.old) }
-        ensures failed { OnErr result (self.new ≡ drawn_anew self.old) }
+        ensures failed { OnErr result (self.new ≡ to_be_drawn self.old) }
         ensures faults { FaultsOnly result }
     {
         if !self.config.enable_bracketed_paste() {
@@ -640,7 +641,7 @@ impl<O: Write + Drop, H: Helper + Drop, S: History + Drop> Editor<O, H, S> {
     /// `Io`, where the output fails. The line that has begun is drawn at the next call then.
     fn ask_for_no_paste_marks(&mut self) -> Result<()>
         ensures stays { OnOk result (self.new ≡ self.old) }
-        ensures failed { OnErr result (self.new ≡ drawn_anew self.old) }
+        ensures failed { OnErr result (self.new ≡ to_be_drawn self.old) }
         ensures faults { FaultsOnly result }
     {
         if !self.config.enable_bracketed_paste() {
@@ -699,7 +700,7 @@ impl<O: Write + Drop, H: Helper + Drop, S: History + Drop> Editor<O, H, S> {
     fn end(&mut self, turned: Result<Turned>) -> Result<Fed>
         requires line { is_some self.old.line ≡ true }
         requires faults { FaultsOnly turned }
-        ensures ends { IfOk result (EndsAs turned self.old self.new) }
+        ensures ends { IfOk result (LineEndsAs turned self.old self.new) }
         ensures stays { self.new
             ≡ record self.old { line = self.new.line; lines = self.new.lines } }
         ensures kept { OnErr result (StaysOrDraws self.old self.new) }
@@ -717,7 +718,7 @@ impl<O: Write + Drop, H: Helper + Drop, S: History + Drop> Editor<O, H, S> {
     fn leave(&mut self, fed: Fed) -> Result<Fed>
         ensures answer { IfOk result (λ answer. answer ≡ fed) }
         ensures gone { OnOk result (self.new ≡ record self.old { line = None }) }
-        ensures kept { OnErr result (self.new ≡ drawn_anew self.old) }
+        ensures kept { OnErr result (self.new ≡ to_be_drawn self.old) }
         ensures faults { FaultsOnly result }
     {
         self.ask_for_no_paste_marks()?;
@@ -728,7 +729,7 @@ impl<O: Write + Drop, H: Helper + Drop, S: History + Drop> Editor<O, H, S> {
     /// Submits the line that has begun, and adds it to the history where the settings say so. Where that fails, the line goes on.
     fn submit(&mut self) -> Result<Fed>
         requires { is_some self.old.line ≡ true }
-        ensures submits { IfOk result (EndsAs (Ok Turned.Submitted) self.old self.new) }
+        ensures submits { IfOk result (LineEndsAs (Ok Turned.Submitted) self.old self.new) }
         ensures stays { self.new
             ≡ record self.old { line = self.new.line; lines = self.new.lines } }
         ensures kept { OnErr result (StaysOrDraws self.old self.new) }
@@ -752,7 +753,7 @@ impl<O: Write + Drop, H: Helper + Drop, S: History + Drop> Editor<O, H, S> {
 /// Appends the items of what is heard to a queue.
 fn decode(heard: Heard<'_>, decoder: &mut Decoder, keys: &mut KeyQueue) -> Result<()>
     ensures gives { OnOk result
-        (Gives (turn_of heard.entry decoder.old) decoder.new keys.old keys.new) }
+        (Enqueues (turn_of heard.entry decoder.old) decoder.new keys.old keys.new) }
     ensures left { OnErr result (AddsItems keys.old keys.new) }
     ensures memory { MemoryOnly result }
 {
@@ -765,7 +766,7 @@ fn decode(heard: Heard<'_>, decoder: &mut Decoder, keys: &mut KeyQueue) -> Resul
 
 /// Returns what a line is answered with.
 fn answer_of(fed: Fed) -> Result<String>
-    ensures { result ≡ answer_of fed }
+    ensures { result ≡ readline_answer fed }
 {
     match fed {
         Fed::Submitted(line) => Ok(line),

@@ -3,7 +3,7 @@ ghost use Rattle.std.specs.Prelude.{◌≡◌, ◌<◌, None, Some, true, IfOk, 
 ghost use Rattle.line_config.specs.Error.{FaultsOnly, MemoryOnly};
 ghost use Rattle.line_keys.specs.Frame.{Frame};
 ghost use Rattle.line_session.specs.Completing.{EndsList, Lists, ListsPage, ListsRows, Replies, reply_by, reply_of, reply_to_more, reply_to_question, unctrled};
-ghost use Rattle.line_session.specs.Taken.{IsShownIn, item_of};
+ghost use Rattle.line_session.specs.Taken.{IsShownIn, item_as_it_is};
 
 use crate::modal::Modal;
 use crate::mode::{AsItIs, Mode};
@@ -115,7 +115,7 @@ impl Listing {
     /// Those of `list`.
     pub(crate) fn answer<E: Modal>(self, item: &AsItIs, state: &mut E) -> Result<Mode>
         ensures reply { IfOk result (Replies (E.environment state.old) self
-            (reply_by self.next (item_of item.now)) (E.draft state.old) (E.draft state.new)) }
+            (reply_by self.next (item_as_it_is item.now)) (E.draft state.old) (E.draft state.new)) }
         ensures shown { IfOk result (λ mode. IsShownIn E.EditorState mode state.new) }
         ensures frame { Frame E.EditorState state.old state.new }
         ensures faults { FaultsOnly result }
@@ -262,7 +262,7 @@ fn end<E: Modal>(alloc: Global, state: &mut E) -> Result<Mode>
 
 /// Returns the reply of an item to a list that goes on with a row, or to the question whether to list.
 fn reply_by(next: Option<usize>, item: &AsItIs) -> Reply
-    ensures { result ≡ reply_by next (item_of item.now) }
+    ensures { result ≡ reply_by next (item_as_it_is item.now) }
 {
     match item {
         AsItIs::Text(_) => Reply::Nothing,

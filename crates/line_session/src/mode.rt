@@ -2,7 +2,7 @@
 ghost use Rattle.std.specs.Prelude.{◌≡◌, ◌≢◌, None, IfSome};
 ghost use Rattle.line_keys.specs.Command.{command_of};
 ghost use Rattle.line_session.specs.Steps.{as_it_is, character_of, is_suspended, plain_character, shows_line, reads_no_command, once_resized, with_control};
-ghost use Rattle.line_session.specs.Taken.{item_of};
+ghost use Rattle.line_session.specs.Taken.{item_as_it_is};
 
 use crate::completing::Completing;
 use crate::listing::Listing;
@@ -115,7 +115,7 @@ pub(crate) enum AsItIs {
 impl AsItIs {
     /// Returns the command that puts it in: nothing of a key that has no character.
     pub(crate) fn command(self) -> Cmd
-        ensures { command_of result ≡ as_it_is (item_of self) }
+        ensures { command_of result ≡ as_it_is (item_as_it_is self) }
     {
         match self {
             AsItIs::Text(text) => Cmd::Insert(1, text),

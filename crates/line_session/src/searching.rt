@@ -6,8 +6,8 @@ ghost use Rattle.line_keys.specs.Draft.{hinted};
 ghost use Rattle.line_keys.specs.Drawing.{Undrawn};
 ghost use Rattle.line_keys.specs.Frame.{Frame};
 ghost use Rattle.line_parts.specs.History.{search_in};
-ghost use Rattle.line_session.specs.Searching.{Searches, BeginsSearch, IsShownBehind, ShowsSearch, before_search, extended, gone_on, grown_by, led_to, next_place, next_start, place_put, search_cmd, search_of, search_prompt, shortened};
-ghost use Rattle.line_session.specs.Taken.{IsShown, IsShownIn};
+ghost use Rattle.line_session.specs.Searching.{Searches, BeginsSearch, IsShownBehind, ShowsSearch, before_search, extended, gone_on, grown_by, led_to, next_place, next_start, place_put, search_cmd, search_value, search_prompt, shortened};
+ghost use Rattle.line_session.specs.Taken.{IsLineShown, IsShownIn};
 
 use crate::modal::Modal;
 use crate::mode::Mode;
@@ -100,7 +100,7 @@ pub(crate) fn search<E: Modal>(
     direction: SearchDirection,
     state: &mut E,
 ) -> Result<Mode>
-    requires { IsShown E.EditorState state.old }
+    requires { IsLineShown E.EditorState state.old }
     ensures begins { IfOk result (BeginsSearch (E.environment state.old) direction
         (E.draft state.old) (E.draft state.new)) }
     ensures shown { IfOk result (λ mode. IsShownIn E.EditorState mode state.new) }
@@ -136,7 +136,7 @@ impl Searching {
     /// Those of the history, the helper and the output: `Io` and `Memory`. The line is then as it was, the one from before the
     /// search, or the one that was found.
     pub(crate) fn take<E: Modal>(mut self, command: SearchCmd, state: &mut E) -> Result<Mode>
-        ensures takes { IfOk result (Searches (E.environment state.old) (search_of self) command
+        ensures takes { IfOk result (Searches (E.environment state.old) (search_value self) command
             (E.draft state.old) (E.draft state.new)) }
         ensures shown { IfOk result (λ mode. IsShownIn E.EditorState mode state.new) }
         ensures frame { Frame E.EditorState state.old state.new }
@@ -153,8 +153,8 @@ impl Searching {
 
     // Leads the search to where a command says, unless that gives it up.
     fn lead<E: Modal>(&mut self, command: SearchCmd, state: &E) -> Result<()>
-        ensures led { OnOk result (search_of self.new
-            ≡ led_to (E.environment state.now) command (search_of self.old)) }
+        ensures led { OnOk result (search_value self.new
+            ≡ led_to (E.environment state.now) command (search_value self.old)) }
         ensures faults { FaultsOnly result }
     {
         match command {
@@ -170,8 +170,8 @@ impl Searching {
 
     // The term gets a character: the search goes on from the line where it stands, that line included.
     fn extend<E: Modal>(&mut self, c: char, state: &E) -> Result<()>
-        ensures extended { OnOk result (search_of self.new
-            ≡ extended (E.environment state.now) c (search_of self.old)) }
+        ensures extended { OnOk result (search_value self.new
+            ≡ extended (E.environment state.now) c (search_value self.old)) }
         ensures faults { FaultsOnly result }
     {
         let before = self.place;
@@ -183,7 +183,7 @@ impl Searching {
 
     // The term loses its last character: the search stands where it stood with the shorter one. The empty term stays.
     fn shorten(&mut self)
-        ensures { search_of self.new ≡ shortened (search_of self.old) }
+        ensures { search_value self.new ≡ shortened (search_value self.old) }
     {
         if let Some(place) = self.shorter.pop() {
             self.term.pop();
@@ -193,8 +193,8 @@ impl Searching {
 
     // The search goes on in a direction, from the line beside the one where it stands.
     fn go_on<E: Modal>(&mut self, direction: SearchDirection, state: &E) -> Result<()>
-        ensures goes { OnOk result (search_of self.new
-            ≡ gone_on (E.environment state.now) direction (search_of self.old)) }
+        ensures goes { OnOk result (search_value self.new
+            ≡ gone_on (E.environment state.now) direction (search_value self.old)) }
         ensures faults { FaultsOnly result }
     {
         let start = next_start(direction, state.history_len(), self.place.index);
@@ -235,7 +235,7 @@ impl Searching {
 
     // Gives up the search: shows the line from before, with its cursor, as the line of the history that it was.
     fn give_up<E: Modal>(self, state: &mut E) -> Result<Mode>
-        ensures gives { IfOk result (Searches (E.environment state.old) (search_of self)
+        ensures gives { IfOk result (Searches (E.environment state.old) (search_value self)
             SearchCmd.GiveUp (E.draft state.old) (E.draft state.new)) }
         ensures shown { IfOk result (λ mode. IsShownIn E.EditorState mode state.new) }
         ensures frame { Frame E.EditorState state.old state.new }
@@ -248,8 +248,8 @@ impl Searching {
 
     // Shows the line that was found, or the one from before, after the prompt of the search.
     fn show<E: Modal>(mut self, state: &mut E) -> Result<Mode>
-        ensures shows { IfOk result (ShowsSearch (E.environment state.old) (search_of self)
-            (before_search (E.environment state.old) (search_of self) (E.draft state.old))
+        ensures shows { IfOk result (ShowsSearch (E.environment state.old) (search_value self)
+            (before_search (E.environment state.old) (search_value self) (E.draft state.old))
             (E.draft state.new)) }
         ensures shown { IfOk result (λ mode. IsShownIn E.EditorState mode state.new) }
         ensures frame { Frame E.EditorState state.old state.new }
@@ -265,7 +265,7 @@ impl Searching {
     // Puts the line from before in place of the one that is shown, with its cursor, as the line of the history that it was.
     fn take_back<E: Modal>(&self, state: &mut E) -> Result<()>
         ensures draft { OnOk result (E.draft state.new
-            ≡ before_search (E.environment state.old) (search_of self.now) (E.draft state.old)) }
+            ≡ before_search (E.environment state.old) (search_value self.now) (E.draft state.old)) }
         ensures still { Undrawn E.EditorState state.old state.new }
         ensures memory { MemoryOnly result }
     {
@@ -283,7 +283,7 @@ impl Searching {
     pub(crate) fn draw<E: Modal>(&self, alloc: Global, state: &mut E) -> Result<()>
         ensures draft { OnOk result (E.draft state.new ≡ hinted (E.environment state.old)
             (E.draft state.old)) }
-        ensures drawn { OnOk result (IsShownBehind (search_prompt (search_of self.now))
+        ensures drawn { OnOk result (IsShownBehind (search_prompt (search_value self.now))
             (E.display state.new) (E.draft state.new)) }
         ensures frame { Frame E.EditorState state.old state.new }
         ensures faults { FaultsOnly result }
@@ -295,7 +295,7 @@ impl Searching {
     // Returns the prompt of the search.
     fn prompt(&self, alloc: Global) -> Result<String>
         ensures text { IfOk result (λ text.
-            string_bytes text ≡ search_prompt (search_of self.now)) }
+            string_bytes text ≡ search_prompt (search_value self.now)) }
         ensures memory { MemoryOnly result }
     {
         let mut prompt = String::new(alloc);

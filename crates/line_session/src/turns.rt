@@ -10,12 +10,12 @@ ghost use Rattle.line_keys.specs.Command.{command_of};
 ghost use Rattle.line_keys.specs.Draft.{hinted};
 ghost use Rattle.line_keys.specs.Frame.{Frame};
 ghost use Rattle.line_keys.specs.Item.{Item};
-ghost use Rattle.line_session.specs.Searching.{search_cmd, search_of};
+ghost use Rattle.line_session.specs.Searching.{search_cmd, search_value};
 ghost use Rattle.line_buffer.specs.KillRing.{Ring};
 ghost use Rattle.line_editor.specs.Input.{Input};
 ghost use Rattle.line_session.specs.Sitting.{standing_with};
-ghost use Rattle.line_session.specs.Steps.{Answers, DoesInSearch, comes_in, shows_line, reads_no_command, starting};
-ghost use Rattle.line_session.specs.Taken.{ComesTo, DrawnBehind, DrawnOnce, IsShown, IsShownIn, IsShownWith, KeepsRules, PutsIn, TakesAsItIs, TakesItem, TakesOne, is_settled, item_of, rules_by, rules_of, standing_of, start_of};
+ghost use Rattle.line_session.specs.Steps.{AnswersCommand, DoesInSearch, comes_in, shows_line, reads_no_command, starting};
+ghost use Rattle.line_session.specs.Taken.{TurnsComeTo, DrawnBehind, DrawnOnce, IsLineShown, IsShownIn, IsShownWith, KeepsRules, PutsIn, TakesAsItIs, TakesItem, TakesOne, is_settled, item_as_it_is, rules_by, session_rules, standing_of, start_of};
 
 use crate::completing::complete;
 use crate::listing::list;
@@ -73,8 +73,8 @@ pub(crate) fn take_turns<
         let r = ⟦<KeyQueue as RawReader>⟧ in
         let before = session state.old (k input_state.old) keys.old kill_ring.old in
         let after = session state.new (k input_state.new) keys.new kill_ring.new in
-        IfOk result (ComesTo (is_settled mode.new (e.display state.new).layout.default_prompt)
-        (rules_of e r config.now before)
+        IfOk result (TurnsComeTo (is_settled mode.new (e.display state.new).layout.default_prompt)
+        (session_rules e r config.now before)
         (start_of e r draws mode.old before) (standing_of e r mode.new after)) }
     ensures drawn { let e = ⟦<Line<'out, 'prompt, O, H, P, S> as EditorState>⟧ in
         IfOk result (λ turned. DrawnOnce e mode.new keys.new.rest turned state.new) }
@@ -127,7 +127,7 @@ fn draw_first<E: Modal>(alloc: Global, draws: bool, mode: &mut Mode, state: &mut
 fn resume<E: Modal>(alloc: Global, state: &mut E) -> Result<()>
     ensures draft { OnOk result (E.draft state.new ≡ hinted (E.environment state.old)
         (E.draft state.old)) }
-    ensures shown { OnOk result (IsShown E.EditorState state.new) }
+    ensures shown { OnOk result (IsLineShown E.EditorState state.new) }
     ensures frame { Frame E.EditorState state.old state.new }
     ensures faults { FaultsOnly result }
 {
@@ -177,8 +177,8 @@ fn turns<
         let r = ⟦<KeyQueue as RawReader>⟧ in
         let before = session state.old (k input_state.old) keys.old kill_ring.old in
         let after = session state.new (k input_state.new) keys.new kill_ring.new in
-        IfOk result (ComesTo (is_settled mode.new (e.display state.new).layout.default_prompt)
-        (rules_of e r config.now before)
+        IfOk result (TurnsComeTo (is_settled mode.new (e.display state.new).layout.default_prompt)
+        (session_rules e r config.now before)
         (standing_of e r mode.old before) (standing_of e r mode.new after)) }
     ensures drawn { let e = ⟦<Line<'out, 'prompt, O, H, P, S> as EditorState>⟧ in
         IfOk result (λ turned. DrawnOnce e mode.new keys.new.rest turned state.new) }
@@ -218,7 +218,7 @@ fn turns<
 /// `Io` and `Memory`.
 fn next_as_it_is(mode: &Mode, keys: &mut KeyQueue) -> Result<Option<AsItIs>>
     ensures takes { IfOk result (λ taken.
-        TakesAsItIs mode.now (option_map item_of taken) keys.old.rest keys.new.rest) }
+        TakesAsItIs mode.now (option_map item_as_it_is taken) keys.old.rest keys.new.rest) }
     ensures none { IfOk result (λ taken. taken ≡ None → keys.new ≡ keys.old) }
     ensures err { OnErr result (keys.new.rest ≡ keys.old.rest) }
     ensures binds { keys.new.binds ≡ keys.old.binds }
@@ -318,7 +318,7 @@ fn edit_turn<
     requires reads { reads_no_command mode.old ≡ false }
     requires edits { shows_line mode.old ≡ true }
     requires shown { let e = ⟦<Line<'out, 'prompt, O, H, P, S> as EditorState>⟧ in
-        IsShown e state.old }
+        IsLineShown e state.old }
     ensures takes { let k = keys_of C.ConditionalEventHandler in
         let e = ⟦<Line<'out, 'prompt, O, H, P, S> as EditorState>⟧ in
         let r = ⟦<KeyQueue as RawReader>⟧ in
@@ -424,7 +424,7 @@ fn do_in_search<
 ) -> Result<(Turned, Mode)>
     ensures does { let e = ⟦<Line<'out, 'prompt, O, H, P, S> as EditorState>⟧ in
         (keymap : Keymap) → IfOk result (λ done. AnswersAs done.0 (DoesInSearch
-        (rules_by e keymap config.now state.old) (search_of searching)
+        (rules_by e keymap config.now state.old) (search_value searching)
         (search_cmd (command_of command)) (command_of command) (input_of input_state.now)
         (editor_of e state.old kill_ring.old) (editor_of e state.new kill_ring.new) done.1)) }
     ensures drawn { let e = ⟦<Line<'out, 'prompt, O, H, P, S> as EditorState>⟧ in
@@ -463,8 +463,8 @@ fn answer<E: Modal>(
     state: &mut E,
     config: &Config,
 ) -> Result<()>
-    requires { IsShown E.EditorState state.old }
-    ensures answers { OnOk result (Answers config.now (E.environment state.old) left mode.old
+    requires { IsLineShown E.EditorState state.old }
+    ensures answers { OnOk result (AnswersCommand config.now (E.environment state.old) left mode.old
         (E.draft state.old) (E.draft state.new) mode.new) }
     ensures shown { OnOk result (IsShownIn E.EditorState mode.new state.new) }
     ensures frame { Frame E.EditorState state.old state.new }
@@ -487,9 +487,9 @@ fn next_mode<E: Modal>(
     state: &mut E,
     config: &Config,
 ) -> Result<Mode>
-    requires { IsShown E.EditorState state.old }
-    ensures answers { IfOk result (Answers config.now (E.environment state.old) (Some left) mode
-        (E.draft state.old) (E.draft state.new)) }
+    requires { IsLineShown E.EditorState state.old }
+    ensures answers { IfOk result (AnswersCommand config.now (E.environment state.old) (Some left)
+        mode (E.draft state.old) (E.draft state.new)) }
     ensures shown { IfOk result (λ mode. IsShownIn E.EditorState mode state.new) }
     ensures frame { Frame E.EditorState state.old state.new }
     ensures faults { FaultsOnly result }
@@ -510,9 +510,9 @@ fn next_mode<E: Modal>(
 
 /// Begins a completion, or goes on with one: shows its next candidate, or lists the candidates that it offered.
 fn complete_on<E: Modal>(mode: Mode, state: &mut E, config: &Config) -> Result<Mode>
-    requires { IsShown E.EditorState state.old }
-    ensures answers { IfOk result (Answers config.now (E.environment state.old) (Some Left.Complete)
-        mode (E.draft state.old) (E.draft state.new)) }
+    requires { IsLineShown E.EditorState state.old }
+    ensures answers { IfOk result (AnswersCommand config.now (E.environment state.old)
+        (Some Left.Complete) mode (E.draft state.old) (E.draft state.new)) }
     ensures shown { IfOk result (λ mode. IsShownIn E.EditorState mode state.new) }
     ensures frame { Frame E.EditorState state.old state.new }
     ensures faults { FaultsOnly result }
@@ -526,10 +526,10 @@ fn complete_on<E: Modal>(mode: Mode, state: &mut E, config: &Config) -> Result<M
 
 /// Gives a completion up, or beeps where there is none.
 fn give_up<E: Modal>(mode: Mode, state: &mut E) -> Result<Mode>
-    requires { IsShown E.EditorState state.old }
+    requires { IsLineShown E.EditorState state.old }
     ensures answers { (settings : Settings) → IfOk result
-        (Answers settings (E.environment state.old) (Some Left.Abort) mode (E.draft state.old)
-        (E.draft state.new)) }
+        (AnswersCommand settings (E.environment state.old) (Some Left.Abort) mode
+        (E.draft state.old) (E.draft state.new)) }
     ensures shown { IfOk result (λ mode. IsShownIn E.EditorState mode state.new) }
     ensures frame { Frame E.EditorState state.old state.new }
     ensures faults { FaultsOnly result }
@@ -573,11 +573,11 @@ fn take_item<
     kill_ring: &mut KillRing,
     config: &Config,
 ) -> Result<()>
-    requires taken { comes_in mode.old (item_of item) ≡ true }
+    requires taken { comes_in mode.old (item_as_it_is item) ≡ true }
     requires shown { let e = ⟦<Line<'out, 'prompt, O, H, P, S> as EditorState>⟧ in
-        shows_line mode.old ≡ true → IsShown e state.old }
+        shows_line mode.old ≡ true → IsLineShown e state.old }
     ensures takes { let e = ⟦<Line<'out, 'prompt, O, H, P, S> as EditorState>⟧ in
-        OnOk result (TakesItem e config.now (input_of input_state.now) mode.old (item_of item)
+        OnOk result (TakesItem e config.now (input_of input_state.now) mode.old (item_as_it_is item)
         state.old kill_ring.old state.new kill_ring.new mode.new) }
     ensures shown { let e = ⟦<Line<'out, 'prompt, O, H, P, S> as EditorState>⟧ in
         OnOk result (IsShownIn e mode.new state.new) }
@@ -619,12 +619,12 @@ fn put_in<
     config: &Config,
 ) -> Result<()>
     requires { let e = ⟦<Line<'out, 'prompt, O, H, P, S> as EditorState>⟧ in
-        IsShown e state.old }
+        IsLineShown e state.old }
     ensures puts { let e = ⟦<Line<'out, 'prompt, O, H, P, S> as EditorState>⟧ in
-        OnOk result (PutsIn e config.now (input_of input_state.now) (item_of item)
+        OnOk result (PutsIn e config.now (input_of input_state.now) (item_as_it_is item)
         state.old (e.draft state.old) kill_ring.old state.new kill_ring.new) }
     ensures shown { let e = ⟦<Line<'out, 'prompt, O, H, P, S> as EditorState>⟧ in
-        OnOk result (IsShown e state.new) }
+        OnOk result (IsLineShown e state.new) }
     ensures frame { let e = ⟦<Line<'out, 'prompt, O, H, P, S> as EditorState>⟧ in
         Frame e state.old state.new }
     ensures faults { FaultsOnly result }

@@ -7,7 +7,7 @@ ghost use Rattle.line_buffer.specs.KillRing.{LeavesRing};
 ghost use Rattle.line_buffer.specs.Offset.{IsRangeIfAny};
 ghost use Rattle.line_buffer.specs.Range.{range_of, text_in, unless_empty};
 ghost use Rattle.line_buffer.specs.Undo.{is_change, newest_steps};
-ghost use Rattle.line_state.specs.Edited.{EditsTo, Finds, undone, with_copies, without_range};
+ghost use Rattle.line_state.specs.Edited.{EditsTo, FindsToEdit, undone, with_copies, without_range};
 
 mod brackets;
 mod elections;
@@ -138,7 +138,7 @@ impl EditedLine {
     /// # Errors
     /// `OutOfMemory` alone. The line may then be any text with its cursor on a boundary, and there are no changes to undo.
     pub fn undo(&mut self, n: RepeatCount) -> Result<bool, OutOfMemory>
-        ensures finds { Finds result self.old self.new (undone n self.old)
+        ensures finds { FindsToEdit result self.old self.new (undone n self.old)
             (list_any is_change (newest_steps n self.old.changes.entries)) }
         ensures unreported { IfOk result (λ done. done ≡ false → self.new.line ≡ self.old.line) }
     {

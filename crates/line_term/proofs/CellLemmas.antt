@@ -6,9 +6,9 @@ use Rattle.std.proofs.lemmas.Bool.Decides.{nat_tests}
 use Rattle.unicode_segmentation.specs.Grapheme.{graphemes}
 use Rattle.line_buffer.specs.declared.layout.Position.{Position}
 use Rattle.line_screen.specs.Measure.{columns_of, ends_row}
-use Rattle.line_term.specs.Drawn.{visible}
-use Rattle.line_term.specs.Page.{IsAt, Page, begun, below, continued, put_down, put_text, unwaiting, with_shown}
-use Rattle.line_term.specs.Shown.{is_before}
+use Rattle.line_term.specs.Drawn.{visible_char}
+use Rattle.line_term.specs.Page.{IsAt, Page, begun, below, continued, put_down, put_text, unwaiting, cluster_shown}
+use Rattle.line_term.specs.Shown.{is_cell_before}
 
 -- a cell stands before the cursor of a page
 abbrev pub before : Page → ℕ → ℕ → Bool
@@ -19,7 +19,7 @@ before page r k = nat_lt r page.row || ((r == page.row) && nat_lt k page.col)
 abbrev pub covers : Page → ℕ → ℕ → ℕ → Bool
 covers page width r k = (r == page.row) && (nat_le page.col k && nat_lt k (page.col + width))
 
-pub shown-cell : (width : ℕ) (shown : List ℕ) (page : Page) (r k : ℕ) → covers page width r k ≡ false → (with_shown width shown page).cells r k ≡ page.cells r k
+pub shown-cell : (width : ℕ) (shown : List ℕ) (page : Page) (r k : ℕ) → covers page width r k ≡ false → (cluster_shown width shown page).cells r k ≡ page.cells r k
 shown-cell width shown page r k no_cover = ap (λ b. cond b (cond (k == page.col) (begun shown) continued) (page.cells r k)) no_cover
 
 -- a cell before the cursor stays, and stands before it
@@ -30,7 +30,7 @@ pub record Stays (page next : Page) (r k : ℕ) : Type 0 where
 stays-below : (page : Page) (r k : ℕ) → before page r k ≡ true → Stays page (below page) r k
 stays-below page r k is = record { same = refl; before = grind (arith, nat_tests) }
 
-stays-shown : (width : ℕ) (shown : List ℕ) (page : Page) (r k : ℕ) → before page r k ≡ true → Stays page (with_shown width shown page) r k
+stays-shown : (width : ℕ) (shown : List ℕ) (page : Page) (r k : ℕ) → before page r k ≡ true → Stays page (cluster_shown width shown page) r k
 stays-shown width shown page r k is =
     let no_cover : covers page width r k ≡ false = grind (arith, nat_tests) in
     record { same = shown-cell width shown page r k no_cover; before = grind (arith, nat_tests) }
@@ -41,9 +41,9 @@ stays-down columns page piece r k is = by_cases (ends_row piece) (nat_le (page.c
   width = columns_of columns piece
 
   shown : List ℕ
-  shown = encode_utf8_all (map visible (chars piece))
+  shown = encode_utf8_all (map visible_char (chars piece))
 
-  by_cases : (e b : Bool) → Stays page (cond e (below page) (with_shown width shown (cond b page (below page)))) r k
+  by_cases : (e b : Bool) → Stays page (cond e (below page) (cluster_shown width shown (cond b page (below page)))) r k
   by_cases true b = stays-below page r k is
   by_cases false true = stays-shown width shown page r k is
   by_cases false false =
@@ -66,7 +66,7 @@ pub record Untouched (page next : Page) (r k : ℕ) : Type 0 where
 untouched-below : (page : Page) (r k : ℕ) → before (below page) r k ≡ false → Untouched page (below page) r k
 untouched-below page r k is = record { same = refl; behind = grind (arith, nat_tests) }
 
-untouched-shown : (width : ℕ) (shown : List ℕ) (page : Page) (r k : ℕ) → before (with_shown width shown page) r k ≡ false → Untouched page (with_shown width shown page) r k
+untouched-shown : (width : ℕ) (shown : List ℕ) (page : Page) (r k : ℕ) → before (cluster_shown width shown page) r k ≡ false → Untouched page (cluster_shown width shown page) r k
 untouched-shown width shown page r k is =
     let no_cover : covers page width r k ≡ false = grind (arith, nat_tests) in
     record { same = shown-cell width shown page r k no_cover; behind = grind (arith, nat_tests) }
@@ -77,10 +77,10 @@ untouched-down columns page piece r k is = by_cases (ends_row piece) (nat_le (pa
   width = columns_of columns piece
 
   shown : List ℕ
-  shown = encode_utf8_all (map visible (chars piece))
+  shown = encode_utf8_all (map visible_char (chars piece))
 
-  by_cases : (e b : Bool) → before (cond e (below page) (with_shown width shown (cond b page (below page)))) r k ≡ false
-      → Untouched page (cond e (below page) (with_shown width shown (cond b page (below page)))) r k
+  by_cases : (e b : Bool) → before (cond e (below page) (cluster_shown width shown (cond b page (below page)))) r k ≡ false
+      → Untouched page (cond e (below page) (cluster_shown width shown (cond b page (below page)))) r k
   by_cases true b is = untouched-below page r k is
   by_cases false true is = untouched-shown width shown page r k is
   by_cases false false is =
@@ -110,7 +110,7 @@ untouched-text columns page text r k is =
     record { same = last.same ∙ first.same; behind = first.behind }
 
 -- a cell before the place at which the cursor is
-pub before-at : (base : ℕ) (place : Position) (page : Page) (r k : ℕ) → IsAt base place page → before page r k ≡ is_before base place r k
+pub before-at : (base : ℕ) (place : Position) (page : Page) (r k : ℕ) → IsAt base place page → before page r k ≡ is_cell_before base place r k
 before-at base place page r k there = ap₂ (λ row col. nat_lt r row || ((r == row) && nat_lt k col)) there.row there.col
 
 -- a cell before the cursor stays, and is before it then

@@ -11,7 +11,7 @@ use Rattle.line_keys.specs.Key.{event_of}
 use Rattle.line_keys.specs.declared.keys.KeyEvent.{KeyEvent}
 use Rattle.line_keys.specs.declared.keys.TheConstants.Modifiers.{ALT, NONE}
 use Rattle.line_term.specs.Begun.{gives, goes_on_as_text, leads_to}
-use Rattle.line_term.specs.Decoder.{Standing, begins_no_char, flushed, followed_by, given_turn, leaves, read, read_char}
+use Rattle.line_term.specs.Decoder.{DecoderState, begins_no_char, flushed, followed_by, given_turn, leaves, read, read_char}
 use Rattle.line_term.specs.DecoderLaws.{HeldIsTyped, is_held}
 use Rattle.line_term.specs.declared.begun.Begun.TheVariants.{Nothing, Escape, Opening, Device}
 use Rattle.line_term.specs.declared.sequence.Given.TheVariants.{Dropped, Held}
@@ -19,16 +19,16 @@ use Rattle.line_term.proofs.ReadingLemmas.{pieces, reads_char}
 use Rattle.line_term.proofs.TypingLemmas.{ascii, at, idle_is, is_false}
 
 -- these keys are held back
-abbrev holding : Standing → List KeyEvent → Standing
+abbrev holding : DecoderState → List KeyEvent → DecoderState
 holding t ks = record (at t (Device false)) { held = ks }
 
 -- the first character behind ESC P
-held_first : (t : Standing) (c : ℕ) → goes_on_as_text 80 c ≡ true
+held_first : (t : DecoderState) (c : ℕ) → goes_on_as_text 80 c ≡ true
     → begins_no_char (read_char c (at t (Opening 80))) ≡ leaves (holding t (event_of 80 ALT ∷ event_of c NONE ∷ []))
 held_first t c goes = rw goes refl
 
 -- one more
-held_one : (t : Standing) (ks : List KeyEvent) (c : ℕ) → is_held c ≡ true
+held_one : (t : DecoderState) (ks : List KeyEvent) (c : ℕ) → is_held c ≡ true
     → begins_no_char (read_char c (holding t ks)) ≡ leaves (holding t (ks ++ event_of c NONE ∷ []))
 held_one t ks c is =
     let parts = and_parts _ _ is in
@@ -37,7 +37,7 @@ held_one t ks c is =
     ap₂ (λ a b. begins_no_char
     (given_turn (if a then gives Nothing Dropped else if b then leads_to (Device true) else gives (Device false) (Held c)) (holding t ks))) ends escape
 
-held_text : (t : Standing) (ks : List KeyEvent) (cs : List ℕ) → all_scalars cs ≡ true → list_all is_held cs ≡ true
+held_text : (t : DecoderState) (ks : List KeyEvent) (cs : List ℕ) → all_scalars cs ≡ true → list_all is_held cs ≡ true
     → read (holding t ks) (encode_utf8_all cs) ≡ leaves (holding t (ks ++ map (λ c. event_of c NONE) cs))
 unfolding read
 held_text t ks [] scalars is = ap (λ xs. leaves (holding t xs)) (sym (append-nil ks))
@@ -54,7 +54,7 @@ keys_of [] = refl
 keys_of (c ∷ cs) = ap (λ ks. key (event_of c NONE) ∷ ks) (keys_of cs)
 
 -- all of them are held back
-all_held : (t : Standing) (c : ℕ) (cs : List ℕ) → all_scalars (c ∷ cs) ≡ true → goes_on_as_text 80 c ≡ true → list_all is_held cs ≡ true
+all_held : (t : DecoderState) (c : ℕ) (cs : List ℕ) → all_scalars (c ∷ cs) ≡ true → goes_on_as_text 80 c ≡ true → list_all is_held cs ≡ true
     → read (at t Nothing) (27 ∷ 80 ∷ encode_utf8_all (c ∷ cs)) ≡ leaves (holding t (event_of 80 ALT ∷ event_of c NONE ∷ map (λ d. event_of d NONE) cs))
 all_held t c cs scalars goes is =
     let parts = and_parts _ _ scalars in

@@ -18,9 +18,9 @@ use Rattle.line_screen.specs.Measure.{measured}
 use Rattle.line_state.specs.ScreenState.{shown_by}
 use Rattle.line_term.specs.Escape.{bell, move_bytes}
 use Rattle.line_term.specs.Output.{Sends}
-use Rattle.line_term.specs.Painted.{Handed, Redraws}
+use Rattle.line_term.specs.Painted.{Handed, RedrawsInFull}
 use Rattle.line_term.specs.Shown.{AreShown, AreTexts, EndsInRows, IsPlace, IsShown, TellsKnown, first_row, is_known, is_same_place}
-use Rattle.line_term.specs.Terminal.{IsReady, Terminal, Turns, put, seen, sent}
+use Rattle.line_term.specs.Terminal.{IsReady, Terminal, TurnsPage, put, seen, sent}
 use Rattle.line_term.proofs.MoveLemmas.{bell-turns}
 use Rattle.line_term.proofs.RedrawLemmas.{redraws-show}
 use Rattle.line_term.proofs.ShownLemmas.{parts-show}
@@ -119,7 +119,7 @@ pub none-known : {O : Type 0} (contents : O → Option (List ℕ)) (columns : �
 none-known contents columns whole end out s none = λ known rows all. absurd (let one = all out in let other = none out in cc)
 
 -- bytes that change nothing
-pub stays : (columns : ℕ) (s : Screen) (bytes : List ℕ) → Turns (λ page. page) bytes → Takes columns s s bytes
+pub stays : (columns : ℕ) (s : Screen) (bytes : List ℕ) → TurnsPage (λ page. page) bytes → Takes columns s s bytes
 stays columns s bytes turns = λ base t shown. record {
   page = shown.page;
   shows = turns columns t shown.page shown.shows;
@@ -128,7 +128,7 @@ stays columns s bytes turns = λ base t shown. record {
 }
 
 pub stays-known : {O : Type 0} (contents : O → Option (List ℕ)) (columns : ℕ) (whole : Bool) (end : Position) (out out' : O) (s : Screen) (bytes : List ℕ)
-    → Turns (λ page. page) bytes → Appends (contents out) (contents out') bytes
+    → TurnsPage (λ page. page) bytes → Appends (contents out) (contents out') bytes
     → TellsKnown contents columns whole end out s → TellsKnown contents columns whole end out' s
 stays-known contents columns whole end out out' s bytes turns grows =
     goes-on contents columns whole whole end end out out' s s bytes grows (λ known rows. (known, rows, stays columns s bytes turns))
@@ -146,7 +146,7 @@ when-sent w columns whole whole' end out out' s bytes (Err e) count more sends s
 
 -- what changes nothing, and what is known stays where it was sent
 pub sent-aside : {O : Type 0} (w : writers.Ghosts O) (columns : ℕ) (whole whole' : Bool) (end : Position) (out out' : O) (s : Screen) (bytes : List ℕ)
-    (result : Result (Unit {0}) ReadlineError) (count more : ℕ) → Turns (λ page. page) bytes → Sends w result out out' count more bytes
+    (result : Result (Unit {0}) ReadlineError) (count more : ℕ) → TurnsPage (λ page. page) bytes → Sends w result out out' count more bytes
     → OnOk result (whole' ≡ whole) → OnErr result (whole' ≡ false)
     → TellsKnown w.contents columns whole end out s → TellsKnown w.contents columns whole' end out' s
 sent-aside w columns whole whole' end out out' s bytes result count more turns sends same part told =
@@ -154,9 +154,9 @@ sent-aside w columns whole whole' end out out' s bytes result count more turns s
     (λ is grows. subst (λ b. TellsKnown w.contents columns b end out' s) (sym is) (stays-known w.contents columns whole end out out' s bytes turns grows told))
 
 -- each beginning of a bell changes nothing
-bell-first : (first left : List ℕ) → bell ≡ first ++ left → Turns (λ page. page) first
+bell-first : (first left : List ℕ) → bell ≡ first ++ left → TurnsPage (λ page. page) first
 bell-first [] left is = λ columns t page shows. shows
-bell-first (c ∷ []) left is = subst (λ (x : ℕ). Turns (λ page. page) (x ∷ [])) (ap (λ (xs : List ℕ). get_or xs 0 0) is) bell-turns
+bell-first (c ∷ []) left is = subst (λ (x : ℕ). TurnsPage (λ page. page) (x ∷ [])) (ap (λ (xs : List ℕ). get_or xs 0 0) is) bell-turns
 bell-first (c ∷ d ∷ cs) left is = let long : 1 ≡ length (c ∷ d ∷ cs ++ left) = ap length is in absurd (omega (arith, long))
 
 -- so what is known stays, whether or not it was sent
@@ -169,7 +169,7 @@ sent-bell w columns whole end out out' s (Err e) count more sends told =
     stays-known w.contents columns whole end out out' s part.first (bell-first part.first sends.failed.0 part.parts) part.appended told
 
 -- what is asked of a terminal where this is wanted
-pub turns-if : (wanted : Bool) (bytes : List ℕ) → Turns (λ page. page) bytes → Turns (λ page. page) (cond wanted bytes [])
+pub turns-if : (wanted : Bool) (bytes : List ℕ) → TurnsPage (λ page. page) bytes → TurnsPage (λ page. page) (cond wanted bytes [])
 turns-if true bytes turns = turns
 turns-if false bytes turns = λ columns t page shows. shows
 
@@ -202,7 +202,7 @@ moved {O} contents columns columns' whole stands whole' end old new out out' s s
 module _ {P H : Type 0} (p : prompts.Ghosts P) (h : highlighters.Ghosts H) where
   -- where it ends and begins as it is measured, it shows what it was handed
   redraw-begins : (columns : ℕ) (wanted : Bool) (old : Option Layout) (handed : Handed P H) (bytes : List ℕ) → 0 < columns
-      → Redraws p h (measured columns) wanted old handed bytes → AreTexts (p.raw_text handed.prompt) handed.line.text handed.behind
+      → RedrawsInFull p h (measured columns) wanted old handed bytes → AreTexts (p.raw_text handed.prompt) handed.line.text handed.behind
       → IsPlace handed.layout.cursor → IfSome old (λ l. IsPlace l.cursor)
       → (let s = shown_by handed.layout (p.raw_text handed.prompt) handed.line handed.behind in
       is_known columns true handed.layout.end s ≡ true → EndsInRows (measured columns) s → Begin columns s bytes)
@@ -223,7 +223,7 @@ module _ {P H : Type 0} (p : prompts.Ghosts P) (h : highlighters.Ghosts H) where
 
   pub redrawn : {O : Type 0} (contents : O → Option (List ℕ)) (columns columns' : ℕ) (wanted : Bool) (old : Option Layout) (handed : Handed P H) (bytes : List ℕ)
       (out out' : O) (s : Screen) → 0 < columns → columns' ≡ columns → s ≡ shown_by handed.layout (p.raw_text handed.prompt) handed.line handed.behind
-      → Redraws p h (measured columns) wanted old handed bytes → AreTexts (p.raw_text handed.prompt) handed.line.text handed.behind
+      → RedrawsInFull p h (measured columns) wanted old handed bytes → AreTexts (p.raw_text handed.prompt) handed.line.text handed.behind
       → IsPlace handed.layout.cursor → IfSome old (λ l. IsPlace l.cursor) → Appends (contents out) (contents out') bytes
       → TellsKnown contents columns' true handed.layout.end out' s
   redrawn contents columns columns' wanted old handed bytes out out' s some same is redraws texts cursor from grows =

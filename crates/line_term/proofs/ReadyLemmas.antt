@@ -9,22 +9,22 @@ use Rattle.line_config.specs.declared.prompt.Prompt as prompts
 use Rattle.line_keys.specs.Display.{Measure, corner}
 use Rattle.line_parts.specs.declared.highlight.Highlighter as highlighters
 use Rattle.line_term.specs.Drawn.{cleaned}
-use Rattle.line_term.specs.Escape.{bell, clear_below, clear_from, clear_row, columns_bytes, hold, move_bytes, next_line, paste_marked, paste_typed, release, return, rows_bytes, steps}
+use Rattle.line_term.specs.Escape.{bell, clear_below, clear_from, clear_row, columns_bytes, hold, move_bytes, row_break, paste_marked, paste_typed, release, return, rows_bytes, steps}
 use Rattle.line_term.specs.Laws.{KeepsReady, TerminalsStayReady}
 use Rattle.line_term.specs.Page.{Page, at}
-use Rattle.line_term.specs.Painted.{Handed, PaintsBehind, Redraws, at_once, clear_drawn, line_end, wrap_behind, wrap_ending}
+use Rattle.line_term.specs.Painted.{Handed, PaintsBehind, RedrawsInFull, at_once, clear_drawn, line_end, wrap_behind, wrap_ending}
 use Rattle.line_term.specs.Shown.{AreTexts, IsPlace}
-use Rattle.line_term.specs.Terminal.{IsReady, Shows, Terminal, Turns, put, seen, sent, showing, without_rest, without_row}
+use Rattle.line_term.specs.Terminal.{IsReady, ShowsPage, Terminal, TurnsPage, put, seen, sent, showing_page, without_rest, without_row}
 use Rattle.line_term.proofs.GoesLemmas.{coming}
 use Rattle.line_term.proofs.MoveLemmas.{bell-turns, below-sent, hold-turns, marked-turns, release-turns, return-sent, row-sent, steps-sent, turned, typed-turns}
 use Rattle.line_term.proofs.PrintLemmas.{prints-cleaned}
 use Rattle.line_term.proofs.RedrawLemmas.{prompt-prints, text-prints}
 
 -- what a ready terminal shows
-shows-seen : (columns : ℕ) (t : Terminal) → IsReady t → Shows columns t (seen columns t)
+shows-seen : (columns : ℕ) (t : Terminal) → IsReady t → ShowsPage columns t (seen columns t)
 shows-seen columns t ready = record { shown = refl; ready = ready }
 
-turns-ready : (f : Page → Page) (bytes : List ℕ) → Turns f bytes → KeepsReady bytes
+turns-ready : (f : Page → Page) (bytes : List ℕ) → TurnsPage f bytes → KeepsReady bytes
 turns-ready f bytes turns = λ columns t ready. (turns columns t (seen columns t) (shows-seen columns t ready)).ready
 
 none-ready : KeepsReady []
@@ -59,19 +59,19 @@ row-ready = λ columns t ready.
     (shows-seen columns t ready) (λ _. row-sent columns t.page t.text)).ready
 
 line-sent : (columns : ℕ) (page : Page) (cs : List ℕ)
-    → sent columns (coming page cs) next_line ≡ showing (let p = seen columns (showing (let q = seen columns (coming page cs) in at q.row 0 q)) in at (p.row + 1) p.col p)
+    → sent columns (coming page cs) row_break ≡ showing_page (let p = seen columns (showing_page (let q = seen columns (coming page cs) in at q.row 0 q)) in at (p.row + 1) p.col p)
 unfolding put seen
 line-sent columns page cs = refl
 
-line-ready : KeepsReady next_line
+line-ready : KeepsReady row_break
 line-ready = λ columns t ready.
-    (turned columns t (seen columns t) (let p = seen columns (showing (let q = seen columns (coming t.page t.text) in at q.row 0 q)) in at (p.row + 1) p.col p) next_line
+    (turned columns t (seen columns t) (let p = seen columns (showing_page (let q = seen columns (coming t.page t.text) in at q.row 0 q)) in at (p.row + 1) p.col p) row_break
     (shows-seen columns t ready) (λ _. line-sent columns t.page t.text)).ready
 
 abbrev home : List ℕ
 home = 27 ∷ 91 ∷ 72 ∷ []
 
-home-sent : (columns : ℕ) (page : Page) (cs : List ℕ) → sent columns (coming page cs) home ≡ showing (at 0 0 (seen columns (coming page cs)))
+home-sent : (columns : ℕ) (page : Page) (cs : List ℕ) → sent columns (coming page cs) home ≡ showing_page (at 0 0 (seen columns (coming page cs)))
 unfolding put seen
 home-sent columns page cs = refl
 
@@ -95,7 +95,7 @@ clear-ready cursor place =
     then-ready (steps cursor.row 65 ++ return) clear_below (then-ready (steps cursor.row 65) return (steps-ready cursor.row (omega (arith, place.0))).0 return-ready) below-ready
 
 wrap-ready : (measure : Measure) (text : List ℕ) (origin end : Position) → KeepsReady (wrap_ending measure text origin end)
-wrap-ready measure text origin end = if-ready _ next_line line-ready
+wrap-ready measure text origin end = if-ready _ row_break line-ready
 
 text-ready : (measure : Measure) (text : List ℕ) (origin end : Position) → IsUtf8 text → KeepsReady (cleaned text ++ wrap_ending measure text origin end)
 text-ready measure text origin end utf8 =
@@ -114,7 +114,7 @@ wrap-behind-ready measure None origin end = none-ready
 wrap-behind-ready measure (Some text) origin end = wrap-ready measure text origin end
 
 module _ {P H : Type 0} (p : prompts.Ghosts P) (h : highlighters.Ghosts H) where
-  redraw-ready : (measure : Measure) (wanted : Bool) (old : Option Layout) (handed : Handed P H) (bytes : List ℕ) → Redraws p h measure wanted old handed bytes
+  redraw-ready : (measure : Measure) (wanted : Bool) (old : Option Layout) (handed : Handed P H) (bytes : List ℕ) → RedrawsInFull p h measure wanted old handed bytes
       → AreTexts (p.raw_text handed.prompt) handed.line.text handed.behind → IsPlace handed.layout.end → IsPlace handed.layout.cursor
       → IfSome old (λ l. IsPlace l.cursor) → KeepsReady bytes
   redraw-ready measure wanted old handed bytes redraws texts end cursor before =

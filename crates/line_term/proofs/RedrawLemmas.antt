@@ -20,9 +20,9 @@ use Rattle.line_term.specs.Drawn.{cleaned, colored, uncolored}
 use Rattle.line_term.specs.Escape.{hold, move_bytes, release}
 use Rattle.line_term.specs.Laws.{RedrawsShow, TextsArrive}
 use Rattle.line_term.specs.Page.{IsAt, Page, at, blank, blank_page, picture, put_behind, put_text}
-use Rattle.line_term.specs.Painted.{Draws, Handed, Painted, Paints, PaintsBehind, PaintsPrompt, at_once, clear_drawn, drawing, is_coloring, shown_as, wrap, wrap_ending}
+use Rattle.line_term.specs.Painted.{Draws, Handed, Painted, PaintsText, PaintsBehind, PaintsPrompt, at_once, clear_drawn, drawing, is_coloring, shown_as, wrap, wrap_ending}
 use Rattle.line_term.specs.Shown.{IsMeasured, IsPlace, IsShown, first_row, within}
-use Rattle.line_term.specs.Terminal.{IsReady, Shows, Terminal, put, seen, sent, without_rest}
+use Rattle.line_term.specs.Terminal.{IsReady, ShowsPage, Terminal, put, seen, sent, without_rest}
 use Rattle.line_term.proofs.AlikeLemmas.{Alike, alike-picture}
 use Rattle.line_term.proofs.MoveLemmas.{clear-turns, hold-turns, move-turns, release-turns}
 use Rattle.line_term.proofs.CellLemmas.{before, stays-text}
@@ -42,7 +42,7 @@ shown-prints columns t text shown bytes ready utf8 is =
     by_test true true e = prints-colored columns t text shown ready utf8 ((bytes_eq-Decides (uncolored shown) (chars text)).0 e)
 
 pub text-prints : (columns : ℕ) (t : Terminal) (text bytes : List ℕ) (own : Option (Option (List ℕ))) → IsReady t → IsUtf8 text
-    → Paints own text bytes → Prints columns t text (sent columns t bytes)
+    → PaintsText own text bytes → Prints columns t text (sent columns t bytes)
 text-prints columns t text bytes None ready utf8 painted =
     subst (λ b. Prints columns t text (sent columns t b)) (sym painted) (prints-cleaned columns t text ready utf8)
 text-prints columns t text bytes (Some own) ready utf8 painted = shown-prints columns t text painted.0 bytes ready utf8 painted.1.1
@@ -57,7 +57,7 @@ prompt-prints columns t raw bytes style (Some own) ready utf8 painted = shown-pr
 
 -- a text and the new row behind it, from a place of a page that is shown
 pub record ArrivesAt (columns base : ℕ) (place : Position) (page : Page) (t : Terminal) : Type 0 where
-  pub shows : Shows columns t page
+  pub shows : ShowsPage columns t page
   pub at : IsAt base place page
 
 text-arrives : (columns base : ℕ) (origin : Position) (page : Page) (t t' : Terminal) (text : List ℕ) → IsUtf8 text → origin.col < columns
@@ -75,7 +75,7 @@ pub texts-arrive : TextsArrive
 texts-arrive columns base origin text t page utf8 room last there shows =
     let done = text-arrives columns base origin page t (sent columns t (cleaned text)) text utf8 room last (record { shows = shows; at = there })
     (prints-cleaned columns t text shows.ready utf8) in (
-      subst (λ s. Shows columns s (put_text columns page text)) (sym (fold-append (put columns) t (cleaned text) (wrap (measured columns) text origin))) done.shows,
+      subst (λ s. ShowsPage columns s (put_text columns page text)) (sym (fold-append (put columns) t (cleaned text) (wrap (measured columns) text origin))) done.shows,
       done.at,
     )
 
@@ -155,8 +155,8 @@ parts-sent columns t a b c d e f m =
     (fold-append (put columns) t (a ++ b) c ∙ ap (λ s. sent columns s c) (fold-append (put columns) t a b)))))
 
 -- what is read between being held back and shown, where that is wanted
-once-shows : (columns : ℕ) (t : Terminal) (page : Page) (wanted : Bool) (bytes : List ℕ) (P : Terminal → Type 0) → Shows columns t page
-    → ((u : Terminal) → Shows columns u page → (end : Page) × Shows columns (sent columns u bytes) end × ((v : Terminal) → Shows columns v end → P v))
+once-shows : (columns : ℕ) (t : Terminal) (page : Page) (wanted : Bool) (bytes : List ℕ) (P : Terminal → Type 0) → ShowsPage columns t page
+    → ((u : Terminal) → ShowsPage columns u page → (end : Page) × ShowsPage columns (sent columns u bytes) end × ((v : Terminal) → ShowsPage columns v end → P v))
     → P (sent columns t (at_once wanted bytes))
 once-shows columns t page true bytes P shows goes =
     let u = sent columns t hold in
@@ -191,7 +191,7 @@ module _ {P H : Type 0} (p : prompts.Ghosts P) (h : highlighters.Ghosts H) where
       → IsMeasured columns (p.raw_text handed.prompt) handed.line.text handed.behind handed.layout
       → ArrivesAt columns base corner page t
       → (let end = picture columns page (p.raw_text handed.prompt) handed.line.text handed.behind in
-      Shows columns (sent columns t bytes) (at (base + handed.layout.cursor.row) (within columns handed.layout.cursor).col end))
+      ShowsPage columns (sent columns t bytes) (at (base + handed.layout.cursor.row) (within columns handed.layout.cursor).col end))
   drawing-arrives columns base handed bytes t page draws is from =
       let layout = handed.layout in
       let behind = handed.behind in
@@ -224,7 +224,7 @@ module _ {P H : Type 0} (p : prompts.Ghosts P) (h : highlighters.Ghosts H) where
       draws.behind middle in
       let t₃ = sent columns (sent columns t₂ painted.behind) (wrap_more measure behind p₂) in
       let end = picture columns page raw text behind in
-      subst (λ s. Shows columns s (at (base + layout.cursor.row) (within columns layout.cursor).col end))
+      subst (λ s. ShowsPage columns s (at (base + layout.cursor.row) (within columns layout.cursor).col end))
       (sym (ap (sent columns t) (draws.whole ∙ drawing-of columns raw text behind layout painted is.prompt_end is.ends)
       ∙ parts-sent columns t painted.prompt (wrap measure raw corner) painted.line (wrap measure text p₁) painted.behind (wrap_more measure behind p₂)
       (move_bytes layout.end layout.cursor)))
@@ -233,9 +233,9 @@ module _ {P H : Type 0} (p : prompts.Ghosts P) (h : highlighters.Ghosts H) where
 
   -- from where it begins, on a page that is like a blank one
   drawing-shows : (columns base : ℕ) (handed : Handed P H) (bytes : List ℕ) (t : Terminal) (page : Page) → Draws p h (measured columns) handed bytes
-      → IsMeasured columns (p.raw_text handed.prompt) handed.line.text handed.behind handed.layout → Alike base page (blank_page base) → Shows columns t page
+      → IsMeasured columns (p.raw_text handed.prompt) handed.line.text handed.behind handed.layout → Alike base page (blank_page base) → ShowsPage columns t page
       → (let end = picture columns page (p.raw_text handed.prompt) handed.line.text handed.behind in
-      Shows columns (sent columns t bytes) (at (base + handed.layout.cursor.row) (within columns handed.layout.cursor).col end))
+      ShowsPage columns (sent columns t bytes) (at (base + handed.layout.cursor.row) (within columns handed.layout.cursor).col end))
   drawing-shows columns base handed bytes t page draws is alike shows =
       drawing-arrives columns base handed bytes t page draws is (record { shows = shows; at = begin-at base page alike })
 
@@ -256,7 +256,7 @@ module _ {P H : Type 0} (p : prompts.Ghosts P) (h : highlighters.Ghosts H) where
   shown-then : (columns base : ℕ) (handed : Handed P H) (old page : Page) (t : Terminal) → Alike base page (blank_page base)
       → ((row col : ℕ) → row < base → page.cells row col ≡ old.cells row col)
       → (let end = picture columns page (p.raw_text handed.prompt) handed.line.text handed.behind in
-      Shows columns t (at (base + handed.layout.cursor.row) (within columns handed.layout.cursor).col end))
+      ShowsPage columns t (at (base + handed.layout.cursor.row) (within columns handed.layout.cursor).col end))
       → Redrawn columns base handed old t
   shown-then columns base handed old page t alike above shows =
       let raw = p.raw_text handed.prompt in
@@ -271,14 +271,14 @@ module _ {P H : Type 0} (p : prompts.Ghosts P) (h : highlighters.Ghosts H) where
       )
 
   -- the rows that were drawn before are cleared, if there are any, and those above stay
-  begun-from : (columns : ℕ) (old : Option Layout) (t : Terminal) (page : Page) → 0 < columns → IfSome old (λ l. IsPlace l.cursor) → Shows columns t page
+  begun-from : (columns : ℕ) (old : Option Layout) (t : Terminal) (page : Page) → 0 < columns → IfSome old (λ l. IsPlace l.cursor) → ShowsPage columns t page
       → (let base = first_row old page in
-      (begun_page : Page) × Shows columns (sent columns t (clear_drawn old)) begun_page × Alike base begun_page (blank_page base)
+      (begun_page : Page) × ShowsPage columns (sent columns t (clear_drawn old)) begun_page × Alike base begun_page (blank_page base)
       × ((row col : ℕ) → row < base → begun_page.cells row col ≡ page.cells row col))
   begun-from columns None t page some place shows =
       let own : page.row - 0 ≡ page.row = omega arith in (
         without_rest (at page.row 0 page),
-        subst (λ r. Shows columns (sent columns t (clear_drawn None)) (without_rest (at r 0 page))) own (clear-turns columns corner t page (omega arith) some shows),
+        subst (λ r. ShowsPage columns (sent columns t (clear_drawn None)) (without_rest (at r 0 page))) own (clear-turns columns corner t page (omega arith) some shows),
         cleared-alike page.row page,
         cleared-above page.row page,
       )
@@ -299,7 +299,7 @@ module _ {P H : Type 0} (p : prompts.Ghosts P) (h : highlighters.Ghosts H) where
       let from = begun-from columns old u page is.some place held in
       let end = at (base + handed.layout.cursor.row) (within columns handed.layout.cursor).col (picture columns from.0 (p.raw_text handed.prompt) handed.line.text handed.behind) in (
         end,
-        subst (λ s. Shows columns s end) (sym (fold-append (put columns) u (clear_drawn old) redraws.drawn))
+        subst (λ s. ShowsPage columns s end) (sym (fold-append (put columns) u (clear_drawn old) redraws.drawn))
             (drawing-shows columns base handed redraws.drawn (sent columns u (clear_drawn old)) from.0 redraws.draws is from.2 from.1),
         λ v shown. shown-then columns base handed page from.0 v from.2 from.3 shown,
       )))

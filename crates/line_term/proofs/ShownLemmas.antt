@@ -17,12 +17,12 @@ use Rattle.line_keys.specs.Display.{corner}
 use Rattle.line_screen.specs.MeasureLaws.{measured-below}
 use Rattle.line_screen.specs.Measure.{advanced, after_cluster, columns_of, ends_row, measured, start_below}
 use Rattle.line_state.proofs.PlainTextLemmas.{plain_text}
-use Rattle.line_term.specs.Drawn.{cleaned, visible}
+use Rattle.line_term.specs.Drawn.{cleaned, visible_char}
 use Rattle.line_term.specs.Escape.{clear_row, move_bytes}
 use Rattle.line_term.specs.Laws.{PartsShow, ShowsCluster, TextsAreShown}
-use Rattle.line_term.specs.Page.{IsAt, Page, at, begun, below, blank, blank_page, continued, picture, put_cluster, put_down, put_text, unwaiting, with_shown}
+use Rattle.line_term.specs.Page.{IsAt, Page, at, begun, below, blank, blank_page, continued, picture, put_cluster, put_down, put_text, unwaiting, cluster_shown}
 use Rattle.line_term.specs.Painted.{wrap}
-use Rattle.line_term.specs.Shown.{IsPlace, IsShown, first_cell, is_before, within}
+use Rattle.line_term.specs.Shown.{IsPlace, IsShown, first_cell, is_cell_before, within}
 use Rattle.line_term.specs.Terminal.{Terminal, sent, without_row}
 use Rattle.line_term.proofs.AlikeLemmas.{Alike, alike-text}
 use Rattle.line_term.proofs.CellLemmas.{before, before-at, covers, stays-pieces, stays-text, untouched-text}
@@ -30,13 +30,13 @@ use Rattle.line_term.proofs.MoveLemmas.{move-turns, row-turns}
 use Rattle.line_term.proofs.PrintLemmas.{cluster-last, clusters-at, clusters-last, earlier, text-at, wrapped-row}
 use Rattle.line_term.proofs.RedrawLemmas.{in-row, measured-row, texts-arrive}
 
-text-front : (columns base : ℕ) (origin : Position) (page : Page) (text : List ℕ) (row col : ℕ) → IsAt base origin page → is_before base origin row col ≡ true
+text-front : (columns base : ℕ) (origin : Position) (page : Page) (text : List ℕ) (row col : ℕ) → IsAt base origin page → is_cell_before base origin row col ≡ true
     → (put_text columns page text).cells row col ≡ page.cells row col
 text-front columns base origin page text row col there is = (stays-text columns page text row col (before-at base origin page row col there ∙ is)).same
 
 -- the rest of what is shown stays
 text-rest : (columns base : ℕ) (origin : Position) (page : Page) (text : List ℕ) (row col : ℕ) → (measured columns text origin).row < 65535
-    → IsAt base origin page → is_before base (measured columns text origin) row col ≡ false → (put_text columns page text).cells row col ≡ page.cells row col
+    → IsAt base origin page → is_cell_before base (measured columns text origin) row col ≡ false → (put_text columns page text).cells row col ≡ page.cells row col
 text-rest columns base origin page text row col last there behind =
     (untouched-text columns page text row col (before-at base (measured columns text origin) (put_text columns page text) row col (text-at columns base origin page text there last) ∙ behind)).same
 
@@ -62,19 +62,19 @@ from-at columns base width p page there last = by_room (nat_le (page.col + width
   by_room true false same last = absurd (cc)
   by_room false true same last = absurd (cc)
 
-shown-begun : (width : ℕ) (shown : List ℕ) (page : Page) → 0 < width → (with_shown width shown page).cells page.row page.col ≡ begun shown
+shown-begun : (width : ℕ) (shown : List ℕ) (page : Page) → 0 < width → (cluster_shown width shown page).cells page.row page.col ≡ begun shown
 shown-begun width shown page some =
     let cover : covers page width page.row page.col ≡ true = grind (arith, nat_tests) in
     let first : (page.col == page.col) ≡ true = grind (arith, nat_tests) in
     ap (λ b. cond b (cond (page.col == page.col) (begun shown) continued) (page.cells page.row page.col)) cover ∙ ap (λ b. cond b (begun shown) continued) first
 
-shown-continued : (width k : ℕ) (shown : List ℕ) (page : Page) → page.col < k → k < page.col + width → (with_shown width shown page).cells page.row k ≡ continued
+shown-continued : (width k : ℕ) (shown : List ℕ) (page : Page) → page.col < k → k < page.col + width → (cluster_shown width shown page).cells page.row k ≡ continued
 shown-continued width k shown page from to =
     let cover : covers page width page.row k ≡ true = grind (arith, nat_tests) in
     let other : (k == page.col) ≡ false = grind (arith, nat_tests) in
     ap (λ b. cond b (cond (k == page.col) (begun shown) continued) (page.cells page.row k)) cover ∙ ap (λ b. cond b (begun shown) continued) other
 
-shown-before : (width k : ℕ) (shown : List ℕ) (page : Page) → k < page.col + width → before (with_shown width shown page) page.row k ≡ true
+shown-before : (width k : ℕ) (shown : List ℕ) (page : Page) → k < page.col + width → before (cluster_shown width shown page) page.row k ≡ true
 shown-before width k shown page to = grind (arith, nat_tests)
 
 -- a cluster begins above the last row where it ends there
@@ -92,13 +92,13 @@ cluster-shown : (columns base : ℕ) (p : Position) (page : Page) (piece : List 
     → (after_cluster columns p piece).row < 65535 → IsAt base p page → ShowsCluster columns base p piece (put_down columns page piece)
 cluster-shown columns base p page piece in_row some last there =
     let width = columns_of columns piece in
-    let shown = encode_utf8_all (map visible (chars piece)) in
+    let shown = encode_utf8_all (map visible_char (chars piece)) in
     let from = from_page columns page width in
-    let done : put_down columns page piece ≡ with_shown width shown from = ap (λ b. cond b (below page) (put_cluster columns page width shown)) in_row in
+    let done : put_down columns page piece ≡ cluster_shown width shown from = ap (λ b. cond b (below page) (put_cluster columns page width shown)) in_row in
     let at_first = from-at columns base width p page there (first-row columns width p piece in_row last) in
     subst (ShowsCluster columns base p piece) (sym done) (
-      ap₂ (λ r k. (with_shown width shown from).cells r k) (sym at_first.row) (sym at_first.col) ∙ shown-begun width shown from some,
-      λ k after within. ap (λ r. (with_shown width shown from).cells r k) (sym at_first.row)
+      ap₂ (λ r k. (cluster_shown width shown from).cells r k) (sym at_first.row) (sym at_first.col) ∙ shown-begun width shown from some,
+      λ k after within. ap (λ r. (cluster_shown width shown from).cells r k) (sym at_first.row)
           ∙ shown-continued width k shown from (omega (arith, at_first.col, after)) (omega (arith, at_first.col, within)),
     )
 
@@ -108,10 +108,10 @@ cluster-kept : (columns base : ℕ) (p : Position) (page next : Page) (piece : L
     → 0 < columns_of columns piece → ShowsCluster columns base p piece (put_down columns page piece) → ShowsCluster columns base p piece next
 cluster-kept columns base p page next piece in_row last there keeps some shows =
     let width = columns_of columns piece in
-    let shown = encode_utf8_all (map visible (chars piece)) in
+    let shown = encode_utf8_all (map visible_char (chars piece)) in
     let from = from_page columns page width in
     let place = first_cell columns width p in
-    let done : put_down columns page piece ≡ with_shown width shown from = ap (λ b. cond b (below page) (put_cluster columns page width shown)) in_row in
+    let done : put_down columns page piece ≡ cluster_shown width shown from = ap (λ b. cond b (below page) (put_cluster columns page width shown)) in_row in
     let at_first = from-at columns base width p page there (first-row columns width p piece in_row last) in
     let is_kept : (k : ℕ) → k < place.col + width → before (put_down columns page piece) (base + place.row) k ≡ true =
     λ k within. ap₂ (λ q r. before q r k) done (sym at_first.row) ∙ shown-before width k shown from (omega (arith, at_first.col, within)) in (
@@ -178,9 +178,9 @@ unwaiting-put : (columns c : ℕ) (page : Page) → is_printable c ≡ true → 
     → put_down columns (unwaiting columns page) (c ∷ []) ≡ put_down columns page (c ∷ [])
 unwaiting-put columns c page print some = by_full (page.col == columns) refl where
   shown : List ℕ
-  shown = encode_utf8_all (map visible (chars (c ∷ [])))
+  shown = encode_utf8_all (map visible_char (chars (c ∷ [])))
 
-  down : (p : Page) → put_down columns p (c ∷ []) ≡ with_shown (min 1 columns) shown (cond (nat_le (p.col + min 1 columns) columns) p (below p))
+  down : (p : Page) → put_down columns p (c ∷ []) ≡ cluster_shown (min 1 columns) shown (cond (nat_le (p.col + min 1 columns) columns) p (below p))
   down p = ap (λ b. cond b (below p) (put_cluster columns p (columns_of columns (c ∷ [])) shown)) (one-in-row c print) ∙ ap (λ n. put_cluster columns p n shown) (one-column columns c print)
 
   by_full : (full : Bool) → (page.col == columns) ≡ full → put_down columns (cond full (below page) page) (c ∷ []) ≡ put_down columns page (c ∷ [])
@@ -188,8 +188,8 @@ unwaiting-put columns c page print some = by_full (page.col == columns) refl whe
   by_full true is =
       let fits : nat_le (0 + min 1 columns) columns ≡ true = grind (arith, nat_tests) in
       let full : nat_le (page.col + min 1 columns) columns ≡ false = grind (arith, nat_tests) in
-      down (below page) ∙ ap (λ b. with_shown (min 1 columns) shown (cond b (below page) (below (below page)))) fits
-      ∙ sym (down page ∙ ap (λ b. with_shown (min 1 columns) shown (cond b page (below page))) full)
+      down (below page) ∙ ap (λ b. cluster_shown (min 1 columns) shown (cond b (below page) (below (below page)))) fits
+      ∙ sym (down page ∙ ap (λ b. cluster_shown (min 1 columns) shown (cond b page (below page))) full)
 
 -- a text with one more such cluster at its end
 put-more : (columns c : ℕ) (page : Page) (text : List ℕ) → is_printable c ≡ true → 0 < columns → graphemes true (text ++ c ∷ []) ≡ graphemes true text ++ (c ∷ []) ∷ []

@@ -10,8 +10,8 @@ use Rattle.line_keys.specs.Key.{event, event_of}
 use Rattle.line_keys.specs.declared.keys.KeyCode.TheVariants.{Esc}
 use Rattle.line_keys.specs.declared.keys.TheConstants.Modifiers.{NONE}
 use Rattle.line_screen.specs.KeyQueue.{Queued}
-use Rattle.line_term.specs.Begun.{cut, ends_before, gives, goes_on_as_text, lasts, leads_to, opening_step, step, waits}
-use Rattle.line_term.specs.Decoder.{Gives, Standing, after_pauses, begins_no_char, cut_char, flushed, followed_by, given_turn, is_waiting, items_of, leaves, longest_silence, read, read_char, settle, settled_all, waited}
+use Rattle.line_term.specs.Begun.{cut, ends_before, gives, goes_on_as_text, lasts, leads_to, opening_step, char_step, waits}
+use Rattle.line_term.specs.Decoder.{Enqueues, DecoderState, after_pauses, begins_no_char, cut_char, flushed, followed_by, given_turn, is_waiting, items_of, leaves, longest_silence, read, read_char, settle, settled_all, waited}
 use Rattle.line_term.specs.DecoderLaws.{FlushSettles, SilenceSettles, TextIsTypedAfterSilence, has_no_escape}
 use Rattle.line_term.specs.Sequence.{cut_off}
 use Rattle.line_term.specs.declared.begun.Begun.{Begun}
@@ -39,8 +39,8 @@ brief_cut (Escape twice) c ends brief = refl
 brief_cut _ c ends brief = absurd (cc)
 
 -- the same, where a character was not read to its end
-pub brief_cut_by : (b : Begun) (given : Step) (c : ℕ) (old middle new : Standing) (before between : Queued) → old.begun ≡ b → given ≡ cut b c
-    → true ≡ ends_before b c → Gives (given_turn given old) middle before between → new.begun ≡ middle.begun → lasts old.begun ≡ false → lasts new.begun ≡ false
+pub brief_cut_by : (b : Begun) (given : Step) (c : ℕ) (old middle new : DecoderState) (before between : Queued) → old.begun ≡ b → given ≡ cut b c
+    → true ≡ ends_before b c → Enqueues (given_turn given old) middle before between → new.begun ≡ middle.begun → lasts old.begun ≡ false → lasts new.begun ≡ false
 brief_cut_by b given c old middle new before between is cuts ends first same brief =
     ap lasts (same ∙ ap (λ s. s.begun) first.left ∙ ap (λ t. t.begun) cuts) ∙ brief_cut b c (sym ends) (ap lasts (sym is) ∙ brief)
 
@@ -57,13 +57,13 @@ gone Nothing brief = refl
 gone (Escape true) brief = refl
 gone (Escape false) brief = refl
 gone (begun.Sequence s) brief =
-    ap (λ x. lasts (if x then (step (cut (begun.Sequence s) 0xFFFD).begun 0xFFFD).begun else Nothing)) (and_false s.alt)
+    ap (λ x. lasts (if x then (char_step (cut (begun.Sequence s) 0xFFFD).begun 0xFFFD).begun else Nothing)) (and_false s.alt)
 gone (Opening sign) brief = ap (λ x. lasts (if not x then Nothing else (opening_step sign 0xFFFD).begun)) (no_text sign)
 gone (Device true) brief = refl
 gone (Device false) brief = refl
 gone _ brief = absurd (cc)
 
-cut_gone : (s : Standing) → lasts s.begun ≡ false → lasts (cut_char s).after.begun ≡ false
+cut_gone : (s : DecoderState) → lasts s.begun ≡ false → lasts (cut_char s).after.begun ≡ false
 cut_gone s brief = by_length (length s.pending == 0) where
   by_length : (b : Bool) → lasts (if b then leaves s else begins_no_char (read_char 0xFFFD s)).after.begun ≡ false
   by_length true = brief
@@ -74,7 +74,7 @@ is_true true e = refl
 is_true false e = absurd (cc)
 
 -- and a pause
-settled_over : (u : Standing) (b : Begun) → u.begun ≡ b → lasts b ≡ false → (settle u).after.begun ≡ Nothing
+settled_over : (u : DecoderState) (b : Begun) → u.begun ≡ b → lasts b ≡ false → (settle u).after.begun ≡ Nothing
 settled_over u b e brief =
     subst (λ v. (settle v).after.begun ≡ Nothing) (sym (ap {A = Begun} (λ x. record u { begun = x }) e)) (by_begun b brief)
   where
@@ -91,19 +91,19 @@ settled_over u b e brief =
     by_begun _ h = absurd (cc)
 
 -- no byte of a character is left, and nothing has begun
-abbrev pub IsOver : Standing → Type 0
+abbrev pub IsOver : DecoderState → Type 0
 IsOver s = (s.begun ≡ Nothing) × (s.pending ≡ [])
 
-all_over : (s : Standing) → lasts s.begun ≡ false → IsOver (settled_all s).after
+all_over : (s : DecoderState) → lasts s.begun ≡ false → IsOver (settled_all s).after
 all_over s brief =
     let u = (cut_char s).after in
     let none = ap (λ bs. length bs == 0) (settled_by u u.begun refl).1 ∙ cut_has_none s in
     (settled_over u u.begun refl (cut_gone s brief), none_by_length (settled_all s).after.pending none)
 
-brief_over : (s : Standing) → lasts s.begun ≡ false → IsOver (flushed s).after
+brief_over : (s : DecoderState) → lasts s.begun ≡ false → IsOver (flushed s).after
 brief_over s brief = subst (λ b. IsOver (if b then waited s else settled_all s).after) (sym brief) (all_over s brief)
 
-waits_not : (s : Standing) → IsOver s → is_waiting s ≡ false
+waits_not : (s : DecoderState) → IsOver s → is_waiting s ≡ false
 waits_not s over = ap₂ (λ bs b. not (length bs == 0) || waits b) over.1 over.0
 
 pub flush_settles : FlushSettles
@@ -111,27 +111,27 @@ flush_settles s brief = waits_not (flushed s).after (brief_over s brief)
 
 -- ---- pause after pause
 
-over_is : (s : Standing) → IsOver s → s ≡ record s { pending = []; begun = Nothing }
+over_is : (s : DecoderState) → IsOver s → s ≡ record s { pending = []; begun = Nothing }
 over_is s over = ap₂ (λ p b. record s { pending = p; begun = b }) over.1 over.0
 
-stays_at : (n : ℕ) (t : Standing) → let u = record t { pending = []; begun = Nothing } in after_pauses n u ≡ u
+stays_at : (n : ℕ) (t : DecoderState) → let u = record t { pending = []; begun = Nothing } in after_pauses n u ≡ u
 unfolding after_pauses
 stays_at zero t = refl
 stays_at (suc n) t = stays_at n t
 
-stays : (n : ℕ) (s : Standing) → IsOver s → IsOver (after_pauses n s)
+stays : (n : ℕ) (s : DecoderState) → IsOver s → IsOver (after_pauses n s)
 stays n s over =
     let u = record s { pending = []; begun = Nothing } in
     let same = ap (after_pauses n) (over_is s over) ∙ stays_at n s in
     (ap (λ v. v.begun) same, ap (λ v. v.pending) same)
 
 -- one more pause, and the others
-one_more : (n : ℕ) (s : Standing) → after_pauses (suc n) s ≡ after_pauses n (flushed s).after
+one_more : (n : ℕ) (s : DecoderState) → after_pauses (suc n) s ≡ after_pauses n (flushed s).after
 unfolding after_pauses
 one_more n s = refl
 
 -- a pause in what lasts is counted, or ends it
-paused : (n : ℕ) (s : Standing) → lasts s.begun ≡ true
+paused : (n : ℕ) (s : DecoderState) → lasts s.begun ≡ true
     → (s.pauses + 1 < longest_silence → IsOver (after_pauses n (record s { pasted = []; pauses = s.pauses + 1 }))) → IsOver (after_pauses (suc n) s)
 paused n s long others =
     subst IsOver (sym (one_more n s ∙ ap (λ b. after_pauses n (if b then waited s else settled_all s).after) long))
@@ -143,12 +143,12 @@ paused n s long others =
     by_count false e = stays n (record s { pasted = []; pending = []; begun = Nothing; pauses = 0 }) (refl, refl)
 
 -- what lasts has ended after the last one
-lasting : (n : ℕ) (s : Standing) → lasts s.begun ≡ true → longest_silence ≤ s.pauses + suc n → IsOver (after_pauses (suc n) s)
+lasting : (n : ℕ) (s : DecoderState) → lasts s.begun ≡ true → longest_silence ≤ s.pauses + suc n → IsOver (after_pauses (suc n) s)
 lasting zero s long enough = paused zero s long (λ few. absurd (omega arith))
 lasting (suc n) s long enough =
     paused (suc n) s long (λ few. lasting n (record s { pasted = []; pauses = s.pauses + 1 }) long (omega arith))
 
-silent : (s : Standing) → IsOver (after_pauses longest_silence s)
+silent : (s : DecoderState) → IsOver (after_pauses longest_silence s)
 silent s = by_lasting (lasts s.begun) refl where
   by_lasting : (b : Bool) → lasts s.begun ≡ b → IsOver (after_pauses longest_silence s)
   by_lasting true long = lasting 19 s long (omega arith)
@@ -159,7 +159,7 @@ silence_settles s = waits_not (after_pauses longest_silence s) (silent s)
 
 -- ---- typed then
 
-typed_from : (t : Standing) (cs : List ℕ) → all_scalars cs ≡ true → has_no_escape cs ≡ true
+typed_from : (t : DecoderState) (cs : List ℕ) → all_scalars cs ≡ true → has_no_escape cs ≡ true
     → items_of (record t { pending = []; begun = Nothing }) (encode_utf8_all cs) ≡ map (λ c. key (event_of c NONE)) cs
 unfolding read
 typed_from t [] scalars none = refl

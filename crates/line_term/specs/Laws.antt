@@ -9,44 +9,44 @@ use Rattle.line_config.specs.declared.prompt.Prompt as prompts
 use Rattle.line_keys.specs.Display.{Measure, corner}
 use Rattle.line_parts.specs.declared.highlight.Highlighter as highlighters
 use Rattle.line_screen.specs.Measure.{after_cluster, columns_of, ends_row, measured}
-use Rattle.line_term.specs.Drawn.{cleaned, visible}
+use Rattle.line_term.specs.Drawn.{cleaned, visible_char}
 use Rattle.line_term.specs.Escape as bytes
 use Rattle.line_term.specs.Escape.{clear_row, move_bytes}
 use Rattle.line_term.specs.Page.{IsAt, Page, at, begun, continued, put_text}
-use Rattle.line_term.specs.Painted.{Handed, Redraws, wrap, wrap_ending}
-use Rattle.line_term.specs.Shown.{AreTexts, IsMeasured, IsPlace, IsShown, first_cell, first_row, is_before, within}
-use Rattle.line_term.specs.Terminal.{IsReady, Shows, Terminal, Turns, TurnsInRow, sent, without_rest, without_row}
+use Rattle.line_term.specs.Painted.{Handed, RedrawsInFull, wrap, wrap_ending}
+use Rattle.line_term.specs.Shown.{AreTexts, IsMeasured, IsPlace, IsShown, first_cell, first_row, is_cell_before, within}
+use Rattle.line_term.specs.Terminal.{IsReady, ShowsPage, Terminal, TurnsPage, TurnsInRow, sent, without_rest, without_row}
 
 -- the bytes of a move take the cursor from the one place to the other, wherever the rows begin, and change no cell
 abbrev pub MovesArrive : Type 0
 MovesArrive = (columns base : ℕ) (old new : Position) (t : Terminal) (page : Page) → 0 < columns → IsPlace old → IsPlace new
-    → IsAt base (within columns old) page → Shows columns t page
-    → Shows columns (sent columns t (move_bytes old new)) (at (base + new.row) (within columns new).col page)
+    → IsAt base (within columns old) page → ShowsPage columns t page
+    → ShowsPage columns (sent columns t (move_bytes old new)) (at (base + new.row) (within columns new).col page)
 
 -- what is written for a text puts its clusters down, and takes the cursor where the text is measured to end and out of the wait at a
 -- row's end; above the last row that a measure knows
 abbrev pub TextsArrive : Type 0
 TextsArrive = (columns base : ℕ) (origin : Position) (text : List ℕ) (t : Terminal) (page : Page) → IsUtf8 text → origin.col < columns
-    → (measured columns text origin).row < 65535 → IsAt base origin page → Shows columns t page
-    → Shows columns (sent columns t (cleaned text ++ wrap (measured columns) text origin)) (put_text columns page text)
+    → (measured columns text origin).row < 65535 → IsAt base origin page → ShowsPage columns t page
+    → ShowsPage columns (sent columns t (cleaned text ++ wrap (measured columns) text origin)) (put_text columns page text)
     × IsAt base (measured columns text origin) (put_text columns page text)
 
 -- a bell and what is asked of a terminal change nothing that is shown; what clears a row's rest, or all below, leaves the cursor where it is
 pub record OthersStay : Type 0 where
-  pub bell : Turns (λ page. page) bytes.bell
+  pub bell : TurnsPage (λ page. page) bytes.bell
   pub row : TurnsInRow without_row bytes.clear_row
   pub below : TurnsInRow without_rest bytes.clear_below
-  pub hold : Turns (λ page. page) bytes.hold
-  pub release : Turns (λ page. page) bytes.release
-  pub marked : Turns (λ page. page) bytes.paste_marked
-  pub typed : Turns (λ page. page) bytes.paste_typed
+  pub hold : TurnsPage (λ page. page) bytes.hold
+  pub release : TurnsPage (λ page. page) bytes.release
+  pub marked : TurnsPage (λ page. page) bytes.paste_marked
+  pub typed : TurnsPage (λ page. page) bytes.paste_typed
 
 -- where a cluster of a text that is put down begins, and how it is shown
 abbrev pub ShowsCluster : ℕ → ℕ → Position → List ℕ → Page → Type 0
 ShowsCluster columns base before cluster page =
     let width = columns_of columns cluster in
     let place = first_cell columns width before in
-    (page.cells (base + place.row) place.col ≡ begun (encode_utf8_all (map visible (chars cluster))))
+    (page.cells (base + place.row) place.col ≡ begun (encode_utf8_all (map visible_char (chars cluster))))
     × ((k : ℕ) → place.col < k → k < place.col + width → page.cells (base + place.row) k ≡ continued)
 
 -- a text that is put down shows each cluster that has columns where the clusters before it are measured to end; what stands before its
@@ -57,9 +57,9 @@ pub record TextsAreShown : Type 0 where
       → (measured columns text origin).row < 65535 → IsAt base origin page
       → ShowsCluster columns base (fold (after_cluster columns) origin front) cluster (put_text columns page text)
   pub front : (columns base : ℕ) (origin : Position) (page : Page) (text : List ℕ) (row col : ℕ) → IsAt base origin page
-      → is_before base origin row col ≡ true → (put_text columns page text).cells row col ≡ page.cells row col
+      → is_cell_before base origin row col ≡ true → (put_text columns page text).cells row col ≡ page.cells row col
   pub rest : (columns base : ℕ) (origin : Position) (page : Page) (text : List ℕ) (row col : ℕ) → (measured columns text origin).row < 65535
-      → IsAt base origin page → is_before base (measured columns text origin) row col ≡ false
+      → IsAt base origin page → is_cell_before base (measured columns text origin) row col ≡ false
       → (put_text columns page text).cells row col ≡ page.cells row col
 
 module _ {P H : Type 0} (p : prompts.Ghosts P) (h : highlighters.Ghosts H) where
@@ -67,9 +67,9 @@ module _ {P H : Type 0} (p : prompts.Ghosts P) (h : highlighters.Ghosts H) where
   -- did, and else in the cursor's row; the rows above stay
   abbrev pub RedrawsShow : Type 0
   RedrawsShow = (columns : ℕ) (wanted : Bool) (old : Option Layout) (handed : Handed P H) (bytes : List ℕ) (t : Terminal) (page : Page)
-      → Redraws p h (measured columns) wanted old handed bytes
+      → RedrawsInFull p h (measured columns) wanted old handed bytes
       → IsMeasured columns (p.raw_text handed.prompt) handed.line.text handed.behind handed.layout
-      → IfSome old (λ l. IsPlace l.cursor) → Shows columns t page
+      → IfSome old (λ l. IsPlace l.cursor) → ShowsPage columns t page
       → (shown : IsShown columns (first_row old page) (p.raw_text handed.prompt) handed.line.text handed.behind handed.layout.cursor (sent columns t bytes))
       × ((row col : ℕ) → row < first_row old page → shown.page.cells row col ≡ page.cells row col)
 
@@ -103,13 +103,13 @@ module _ {P H : Type 0} (p : prompts.Ghosts P) (h : highlighters.Ghosts H) where
   pub record TerminalsStayReady : Type 0 where
     pub moves : (old new : Position) → IsPlace old → IsPlace new → KeepsReady (move_bytes old new)
     pub texts : (measure : Measure) (text : List ℕ) (origin end : Position) → IsUtf8 text → KeepsReady (cleaned text ++ wrap_ending measure text origin end)
-    pub redraws : (measure : Measure) (wanted : Bool) (old : Option Layout) (handed : Handed P H) (bytes : List ℕ) → Redraws p h measure wanted old handed bytes
+    pub redraws : (measure : Measure) (wanted : Bool) (old : Option Layout) (handed : Handed P H) (bytes : List ℕ) → RedrawsInFull p h measure wanted old handed bytes
         → AreTexts (p.raw_text handed.prompt) handed.line.text handed.behind → IsPlace handed.layout.end → IsPlace handed.layout.cursor
         → IfSome old (λ l. IsPlace l.cursor) → KeepsReady bytes
     pub rows : (cursor : Position) → IsPlace cursor → KeepsReady (bytes.clear_from cursor)
     pub row : KeepsReady bytes.clear_row
     pub screen : KeepsReady bytes.clear_all
-    pub line : KeepsReady bytes.next_line
+    pub line : KeepsReady bytes.row_break
     pub bell : KeepsReady bytes.bell
     pub hold : KeepsReady bytes.hold
     pub release : KeepsReady bytes.release

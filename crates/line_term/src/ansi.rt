@@ -9,9 +9,9 @@ ghost use Rattle.line_keys.specs.Display.{KeepsShown, uncounted};
 ghost use Rattle.line_state.specs.ScreenState.{Agrees, BeepsAtMost, DrawsNoLine, EndsBehind, HasRoom, HoldsAtMost, Tries, WritesAtMost, shown_by, with_shown};
 ghost use Rattle.line_screen.specs.Measure.{measured};
 ghost use Rattle.line_term.specs.Drawn.{cleaned};
-ghost use Rattle.line_term.specs.Escape.{bell, clear_all, clear_from, clear_row, hold, move_bytes, next_line, paste_marked, paste_typed, release};
-ghost use Rattle.line_term.specs.Output.{Resizes, StaysWith, unknown_screen, Writes, WritesAside, WritesPart, WritesSome, holds_back};
-ghost use Rattle.line_term.specs.Painted.{AppendsSome, Draws, Redraws, asked, wrap};
+ghost use Rattle.line_term.specs.Escape.{bell, clear_all, clear_from, clear_row, hold, move_bytes, row_break, paste_marked, paste_typed, release};
+ghost use Rattle.line_term.specs.Output.{ResizesScreen, StaysWith, unknown_screen, WritesBytes, WritesAside, WritesPart, WritesSome, holds_back};
+ghost use Rattle.line_term.specs.Painted.{AppendsSome, Draws, RedrawsInFull, asked, wrap};
 ghost use Rattle.line_term.specs.Shown.{EndsInRows, IsOnTerminal, TellsKnown};
 
 use crate::drawn::push_cleaned;
@@ -301,7 +301,7 @@ impl<O: Write + Drop, R: RawReader> Renderer for Ansi<O, R> {
             ≡ ⟦<Self as ScreenState>⟧.beside self.old }
         ensures tries { Tries ⟦<Self as ScreenState>⟧ result self.old self.new }
         ensures writes { WritesSome ⟦<Self as ScreenState>⟧ ⟦<Self as Output>⟧ result
-            self.old self.new (Redraws P.Prompt H.Highlighter
+            self.old self.new (RedrawsInFull P.Prompt H.Highlighter
             (⟦<Self as ScreenState>⟧.surface self.old).measure
             (holds_back ⟦<Self as ScreenState>⟧ ⟦<Self as Output>⟧ self.old)
             (option_map (λ l. l.now) old_layout.entry) (record {
@@ -378,7 +378,7 @@ impl<O: Write + Drop, R: RawReader> Renderer for Ansi<O, R> {
         ensures beside { WritesAtMost (⟦<Self as ScreenState>⟧.beside self.old)
             (⟦<Self as ScreenState>⟧.beside self.new) }
         ensures part { DrawsNoLine ⟦<Self as ScreenState>⟧ result self.old self.new }
-        ensures writes { Writes ⟦<Self as ScreenState>⟧ ⟦<Self as Output>⟧ result
+        ensures writes { WritesBytes ⟦<Self as ScreenState>⟧ ⟦<Self as Output>⟧ result
             self.old self.new (cleaned buf.now
             ++ wrap (⟦<Self as ScreenState>⟧.surface self.old).measure buf.now
             (⟦<Self as ScreenState>⟧.screen self.old).position) }
@@ -506,7 +506,7 @@ impl<O: Write + Drop, R: RawReader> Renderer for Ansi<O, R> {
         ensures cleared { OnOk result (⟦<Self as ScreenState>⟧.screen self.new ≡ unknown_screen) }
         ensures writes { WritesPart ⟦<Self as ScreenState>⟧ ⟦<Self as Output>⟧ result
             self.old self.new
-            (if nat_lt 0 (⟦<Self as ScreenState>⟧.screen self.old).position.col then next_line
+            (if nat_lt 0 (⟦<Self as ScreenState>⟧.screen self.old).position.col then row_break
             else []) }
         ensures reader { rdr.new ≡ rdr.old }
     {
@@ -575,7 +575,7 @@ impl<O: Write + Drop, R: RawReader> Renderer for Ansi<O, R> {
 impl<O: Write + Drop, R: RawReader> Resizable for Ansi<O, R> {
     fn resize(&mut self, columns: Unit, rows: Unit)
         requires { 0 < columns }
-        ensures { Resizes ⟦<Self as ScreenState>⟧ ⟦<Self as Output>⟧ self.old self.new
+        ensures { ResizesScreen ⟦<Self as ScreenState>⟧ ⟦<Self as Output>⟧ self.old self.new
             columns rows }
     {
         self.whole = false;

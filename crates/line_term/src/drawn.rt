@@ -2,7 +2,7 @@
 ghost use Rattle.std.specs.Prelude.{◌≡◌, ◌++◌, nat_lt, IfOk, OnOk, chars, encode_utf8, string_bytes, if◌then◌else◌};
 ghost use Rattle.line_config.specs.Error.{MemoryOnly};
 ghost use Rattle.line_term.specs.Painted.{is_coloring};
-ghost use Rattle.line_term.specs.Drawn.{begins_below, cleaned, color_length, colored, colored_from, drawn, drawn_char, is_control, is_parameter, passing_behind, shift_in, uncolored_from, visible};
+ghost use Rattle.line_term.specs.Drawn.{begins_below, cleaned, color_length, colored, colored_from, drawn, drawn_char, is_control, is_parameter, passing_behind, shift_in, uncolored_from, visible_char};
 
 use crate::escape::push_if;
 use line_buffer::{is_plain_text, is_printable_text};
@@ -117,7 +117,7 @@ fn push_char(bytes: &mut String, c: char, below: bool) -> Result<()>
 /// Appends what is drawn for a control character, as a cluster of its own.
 fn push_control(bytes: &mut String, c: char) -> Result<()>
     ensures appends { OnOk result (string_bytes bytes.new
-        ≡ string_bytes bytes.old ++ (shift_in ++ encode_utf8 (visible c) ++ shift_in)) }
+        ≡ string_bytes bytes.old ++ (shift_in ++ encode_utf8 (visible_char c) ++ shift_in)) }
     ensures memory { MemoryOnly result }
 {
     bytes.push_str(SHIFT_IN)?;
@@ -135,7 +135,7 @@ fn is_control(c: char) -> bool
 
 /// Returns the character that is drawn for one.
 fn visible(c: char) -> char
-    ensures { result ≡ visible c }
+    ensures { result ≡ visible_char c }
 {
     match c {
         '\t' => ' ',

@@ -1,7 +1,7 @@
 //! The bytes of a full redraw.
 ghost use Rattle.std.specs.Prelude.{IfSome, OnOk, option_map, string_bytes};
 ghost use Rattle.line_config.specs.Error.{FaultsOnly};
-ghost use Rattle.line_term.specs.Painted.{AppendsSome, Draws, Redraws};
+ghost use Rattle.line_term.specs.Painted.{AppendsSome, Draws, RedrawsInFull};
 ghost use Rattle.line_term.specs.Shown.{AreTexts, IsPlace};
 
 use crate::escape::{push_if, push_move};
@@ -32,7 +32,7 @@ pub(crate) fn push_redraw<P: Prompt, H: Highlighter, R: RawReader>(
     highlighter: Option<&H>,
 ) -> Result<()>
     ensures draws { OnOk result (AppendsSome (string_bytes bytes.old)
-        (string_bytes bytes.new) (Redraws P.Prompt H.Highlighter
+        (string_bytes bytes.new) (RedrawsInFull P.Prompt H.Highlighter
         (⟦<Plain<R> as ScreenState>⟧.surface screen.now).measure at_once
         (option_map (λ l. l.now) old_layout.entry) (record {
           prompt = prompt.now;

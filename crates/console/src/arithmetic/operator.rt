@@ -1,6 +1,6 @@
 //! The operators, and what they make of two numbers.
 ghost use Rattle.std.specs.Prelude.{◌≡◌, ◌≢◌, IfErr, IfNone, IfOk, IfSome, OnErr, neg_ℤ};
-ghost use Rattle.console.specs.Expression.{fitting, result_of};
+ghost use Rattle.console.specs.Expression.{in_range, result_of};
 ghost use Rattle.console.specs.Grammar.{rank_of, tighter};
 ghost use Rattle.console.specs.Refusals.{complaint_of};
 
@@ -84,8 +84,8 @@ impl Operator {
 /// # Errors
 /// `Overflow` where it does not fit.
 pub fn negate(number: i64) -> Result<i64, Complaint>
-    ensures ok { IfOk result (λ x. fitting (neg_ℤ number) ≡ Some x) }
-    ensures err { OnErr result (fitting (neg_ℤ number) ≡ None) }
+    ensures ok { IfOk result (λ x. in_range (neg_ℤ number) ≡ Some x) }
+    ensures err { OnErr result (in_range (neg_ℤ number) ≡ None) }
     ensures complaint { IfErr result (λ c. c ≡ Complaint.Overflow) }
 {
     number.checked_neg().ok_or(Complaint::Overflow)

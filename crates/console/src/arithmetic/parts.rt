@@ -4,7 +4,7 @@ ghost use Rattle.std.specs.Prelude.{IfErr, IfNone, IfOk, IfSome, MatchOption, On
 ghost use Rattle.console.specs.Expression.{result_of};
 ghost use Rattle.console.specs.Grammar.{figure, opening, rank_of, sign, tighter, word};
 ghost use Rattle.console.specs.Names.{value_in};
-ghost use Rattle.console.specs.Parts.{HasNoOperatorAt, IsAt, IsPart, IsWorth, Settles, SettlesAll};
+ghost use Rattle.console.specs.Parts.{HasNoOperatorAt, IsSymbolAt, IsPart, IsWorth, Settles, SettlesAll};
 ghost use Rattle.console.specs.Refusals.{complaint_of};
 ghost use Rattle.console.specs.Tokens.{symbol_of};
 
@@ -44,7 +44,7 @@ fn fail<T>(complaint: Complaint, token: usize) -> Result<T, Fault>
 /// Returns the token at a place.
 pub fn token_at<'a>(tokens: &[Placed<'a>], place: usize) -> Option<Token<'a>>
     ensures { MatchOption result (length tokens.now ≤ place)
-        (λ t. IsAt tokens.now place (symbol_of t)) }
+        (λ t. IsSymbolAt tokens.now place (symbol_of t)) }
 {
     match tokens.get(place) {
         Some(placed) => Some(placed.token),
@@ -54,7 +54,7 @@ pub fn token_at<'a>(tokens: &[Placed<'a>], place: usize) -> Option<Token<'a>>
 
 // Returns the operator at a place, if it makes expressions of a rank.
 fn operator_at(tokens: &[Placed<'_>], place: usize, rank: Rank) -> Option<Operator>
-    ensures some { IfSome result (λ o. IsAt tokens.now place (sign o) × (rank_of o ≡ rank)) }
+    ensures some { IfSome result (λ o. IsSymbolAt tokens.now place (sign o) × (rank_of o ≡ rank)) }
     ensures none { IfNone result (HasNoOperatorAt tokens.now place rank) }
 {
     match token_at(tokens, place) {
@@ -77,7 +77,7 @@ fn deeper(depth: usize, token: usize) -> Result<usize, Fault>
 
 // Returns the part that is a number.
 fn number_part(tokens: &[Placed<'_>], names: &Names, at: usize, value: i64) -> Part
-    requires { IsAt tokens.now at (figure value) }
+    requires { IsSymbolAt tokens.now at (figure value) }
     ensures part { IsPart tokens.now (value_in names.now) Rank.Factor at result }
     ensures settled { Settles tokens.now (value_in names.now) Rank.Factor at (Ok result) }
 {
@@ -89,7 +89,7 @@ fn number_part(tokens: &[Placed<'_>], names: &Names, at: usize, value: i64) -> P
 
 // Returns the part that is a name.
 fn name_part(tokens: &[Placed<'_>], names: &Names, at: usize, name: &str) -> Result<Part, Fault>
-    requires { IsAt tokens.now at (word name.now) }
+    requires { IsSymbolAt tokens.now at (word name.now) }
     ensures ok { IfOk result (IsPart tokens.now (value_in names.now) Rank.Factor at) }
     ensures settled { Settles tokens.now (value_in names.now) Rank.Factor at result }
     ensures err { IfErr result (λ f. f ≡ record { complaint = Complaint.NoValue; token = at }) }
@@ -110,7 +110,7 @@ fn negation_part(
     at: usize,
     inner: Part,
 ) -> Result<Part, Fault>
-    requires minus { IsAt tokens.now at (sign Operator.Minus) }
+    requires minus { IsSymbolAt tokens.now at (sign Operator.Minus) }
     requires inner { IsPart tokens.now (value_in names.now) Rank.Factor (at + 1) inner }
     requires settled { Settles tokens.now (value_in names.now) Rank.Factor (at + 1) (Ok inner) }
     ensures ok { IfOk result (IsPart tokens.now (value_in names.now) Rank.Factor at) }
@@ -128,7 +128,7 @@ fn negation_part(
 
 // Returns the part that is another one in brackets.
 fn bracket_part(tokens: &[Placed<'_>], names: &Names, at: usize, inner: Part) -> Result<Part, Fault>
-    requires opening { IsAt tokens.now at opening }
+    requires opening { IsSymbolAt tokens.now at opening }
     requires inner { IsPart tokens.now (value_in names.now) Rank.Sum (at + 1) inner }
     requires settled { Settles tokens.now (value_in names.now) Rank.Sum (at + 1) (Ok inner) }
     ensures ok { IfOk result (IsPart tokens.now (value_in names.now) Rank.Factor at) }
@@ -155,7 +155,7 @@ fn operation_part(
     right: Part,
 ) -> Result<Part, Fault>
     requires left { IsPart tokens.now (value_in names.now) (rank_of operator) at left }
-    requires operator { IsAt tokens.now left.next (sign operator) }
+    requires operator { IsSymbolAt tokens.now left.next (sign operator) }
     requires right { IsPart tokens.now (value_in names.now) (tighter (rank_of operator))
         (left.next + 1) right }
     ensures ok { IfOk result (IsPart tokens.now (value_in names.now) (rank_of operator) at) }

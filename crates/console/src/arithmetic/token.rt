@@ -6,7 +6,7 @@ ghost use Rattle.std.specs.List.{prefix_len};
 ghost use Rattle.console.specs.Grammar.{Symbol};
 ghost use Rattle.console.specs.Spelling.{IsBlank, begins_name, mark_of, passes};
 ghost use Rattle.console.specs.Tokens.{EndsAt, IsReadAt, IsScanOf, IsScanRefusal, IsTooLargeAt};
-ghost use Rattle.console.specs.Tokens.{IsUnblankAt, LeadsOnlyTo, LeadsTo, symbol_of};
+ghost use Rattle.console.specs.Tokens.{IsUnblankAt, SpellsOnlyUpTo, SpellsUpTo, symbol_of};
 
 use crate::arithmetic::complaint::{Complaint, Refusal};
 use crate::arithmetic::operator::Operator;
@@ -97,9 +97,9 @@ fn run_end(text: &str, at: usize, kind: Kind) -> usize
 #[tactic(auto, using(crate::proofs::SpellingLemmas::leads_past_blanks))]
 fn skip_blanks(text: &str, at: usize) -> usize
     requires { IsCharBoundary text.now at }
-    ensures leads { LeadsTo text.now at [] result }
+    ensures leads { SpellsUpTo text.now at [] result }
     ensures boundary { IsCharBoundary text.now result }
-    ensures only { LeadsOnlyTo text.now at [] result }
+    ensures only { SpellsOnlyUpTo text.now at [] result }
     ensures stops { IsUnblankAt text.now result }
     ensures forward { at ≤ result }
 {

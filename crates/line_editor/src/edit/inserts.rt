@@ -5,7 +5,7 @@ ghost use Rattle.line_editor.specs.DraftEdits.{popped_in, text_inserted, yanked_
 ghost use Rattle.line_editor.specs.InputState.{input_of};
 ghost use Rattle.line_editor.specs.Outcomes.{DoesCommand, EditsThenDraws};
 ghost use Rattle.line_keys.specs.Drawing.{Does, drawn_if, edit_drawn};
-ghost use Rattle.line_keys.specs.Plainly.{is_bare, takes_char};
+ghost use Rattle.line_keys.specs.Plainly.{is_bare_line, takes_char};
 ghost use Rattle.line_state.specs.Edited.{pops_text};
 
 use crate::binding::ConditionalEventHandler;
@@ -60,7 +60,7 @@ impl<'out, 'prompt, W: Renderer, H: Helper, P: Prompt, S: History> State<
     // Returns whether the line is printable ASCII and newlines, with no hint and no text drawn after it.
     pub(crate) fn is_bare(&self) -> bool
         ensures { let e = ⟦<Self as EditorState>⟧ in
-            result ≡ is_bare (e.display self.now) (e.draft self.now) }
+            result ≡ is_bare_line (e.display self.now) (e.draft self.now) }
     {
         self.line.edited.line().is_plain()
             && self.line.hint.is_none()

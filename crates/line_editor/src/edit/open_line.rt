@@ -1,7 +1,7 @@
 //! A line that is open for editing, and how it is kept while nothing is lent to it: what a program with a loop of its own
 //! holds between two reads.
 ghost use Rattle.std.specs.Prelude.{◌≡◌, ◌≤◌, length, option_map};
-ghost use Rattle.line_editor.specs.Editor.{Begins};
+ghost use Rattle.line_editor.specs.Editor.{EditorBegins};
 ghost use Rattle.line_parts.specs.Helped.{environment_by, sure_by};
 ghost use Rattle.line_state.specs.Kept.{IsLeftOn, display_on};
 
@@ -44,7 +44,7 @@ impl<H: Helper> Model for KeptLine<H> {
     ghost use Rattle.std.specs.Prelude.{option_map};
     ghost use Rattle.line_editor.specs.Released.{KeptDraft};
     ghost use Rattle.line_parts.specs.Hint.{suggestion_of};
-    ghost use Rattle.line_state.specs.Kept.{kept_of};
+    ghost use Rattle.line_state.specs.Kept.{kept_of_drawn};
 
     ghost Value = { KeptDraft };
 
@@ -56,7 +56,7 @@ impl<H: Helper> Model for KeptLine<H> {
         hint = option_map (suggestion_of H.Hint.Hint) k.line.hint;
         changes = k.line.edited.changes;
       };
-      drawing = kept_of k.drawn;
+      drawing = kept_of_drawn k.drawn;
     } };
 }
 
@@ -133,7 +133,7 @@ impl<'out, 'prompt, W: Renderer, H: Helper, P: Prompt, S: History> State<
         requires left { IsLeftOn kept.drawing
             (W.surface out.old) (W.screen out.old) (P.raw_text prompt.now) }
         requires within { kept.draft.index ≤ length (S.lines history.now) }
-        ensures { Begins ⟦<Self as EditorState>⟧ result kept.draft
+        ensures { EditorBegins ⟦<Self as EditorState>⟧ result kept.draft
             (environment_by H.hint_at H.verdict_at H.lights H.Completer
             helper.entry (S.lines history.now))
             (sure_by H.Hinter.sure H.Validator.sure (S.sure history.now) helper.entry)

@@ -2,7 +2,7 @@
 ghost use Rattle.std.specs.Prelude.{◌≡◌, is_some, IfSome};
 ghost use Rattle.line_buffer.specs.Offset.{IsRangeIfAny};
 ghost use Rattle.line_parts.specs.BracketMatch.{matching_bracket};
-ghost use Rattle.line_state.specs.Edited.{Finds, GoesTo, HasOneByteAt, bracket_range, with_nothing_for};
+ghost use Rattle.line_state.specs.Edited.{FindsToEdit, GoesTo, HasOneByteAt, bracket_range, with_nothing_for};
 ghost use Rattle.line_state.specs.Moves.{bracket_place};
 
 use super::EditedLine;
@@ -43,7 +43,7 @@ impl EditedLine {
     /// # Errors
     /// `OutOfMemory` alone. The line may then be any text with its cursor on a boundary, and there are no changes to undo.
     pub fn remove_to_bracket(&mut self) -> Result<bool, OutOfMemory>
-        ensures { let range = bracket_range self.old.line in Finds result self.old self.new
+        ensures { let range = bracket_range self.old.line in FindsToEdit result self.old self.new
             (with_nothing_for range self.old) (is_some range) }
     {
         let Some((from, to)) = self.bracket_range() else {

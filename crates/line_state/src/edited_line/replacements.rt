@@ -4,7 +4,7 @@ ghost use Rattle.line_buffer.specs.Cluster.{clusters, place_on};
 ghost use Rattle.line_buffer.specs.Line.{after};
 ghost use Rattle.line_buffer.specs.Range.{from_cursor};
 ghost use Rattle.line_buffer.specs.Transpose.{are_apart, chars_exchanged, has_two_chars, next_alphanumeric, with_chars_exchanged, with_word_cased, with_words_exchanged, word_cased, words_beside, words_exchanged};
-ghost use Rattle.line_state.specs.Edited.{EditsTo, Finds, Reports, edited_to, with_char_for, with_chars_swapped, with_copies_to, with_lines_shifted, with_next_word, with_overwritten, with_words_swapped, without_range};
+ghost use Rattle.line_state.specs.Edited.{EditsTo, FindsToEdit, Reports, edited_to, with_char_for, with_chars_swapped, with_copies_to, with_lines_shifted, with_next_word, with_overwritten, with_words_swapped, without_range};
 
 use super::EditedLine;
 use line_buffer::{Movement, OutOfMemory, RepeatCount, WordAction};
@@ -49,7 +49,8 @@ impl EditedLine {
     fn replace_clusters(&mut self, c: char, n: RepeatCount) -> Result<bool, OutOfMemory>
         ensures { let count = min n (length (clusters (after self.old.line))) in
             let stop = place_on self.old.line n in
-            Finds result self.old self.new (with_copies_to c count stop self.old) (is_some stop) }
+            FindsToEdit result self.old self.new
+            (with_copies_to c count stop self.old) (is_some stop) }
     {
         let count = self.count_clusters(n);
         if !self.delete(n)? {
@@ -70,7 +71,7 @@ impl EditedLine {
 
     // Takes away `n` clusters from the cursor on, or as many as there are. Returns whether there is one.
     fn delete(&mut self, n: RepeatCount) -> Result<bool, OutOfMemory>
-        ensures { let stop = place_on self.old.line n in Finds result self.old self.new
+        ensures { let stop = place_on self.old.line n in FindsToEdit result self.old self.new
             (without_range (from_cursor self.old.line stop) self.old) (is_some stop) }
     {
         self.line.discard(n, &mut self.changes)
@@ -93,7 +94,7 @@ impl EditedLine {
 
     // Exchanges the clusters before and at the cursor.
     fn exchange_chars(&mut self) -> Result<bool, OutOfMemory>
-        ensures { let line = self.old.line in Finds result self.old self.new
+        ensures { let line = self.old.line in FindsToEdit result self.old self.new
             (edited_to (chars_exchanged line) (with_chars_exchanged line) self.old)
             (has_two_chars line) }
     {
@@ -106,7 +107,7 @@ impl EditedLine {
     /// # Errors
     /// `OutOfMemory` alone. The line may then be any text with its cursor on a boundary, and there are no changes to undo.
     pub fn transpose_words(&mut self, n: RepeatCount) -> Result<bool, OutOfMemory>
-        ensures reports { Finds result self.old self.new (with_words_swapped n self.old)
+        ensures reports { FindsToEdit result self.old self.new (with_words_swapped n self.old)
             (are_apart (words_beside self.old.line n)) }
         ensures unreported { IfOk result (λ done.
             done ≡ false → self.new.line.text ≡ self.old.line.text) }
@@ -119,7 +120,7 @@ impl EditedLine {
 
     // Exchanges the word that ends `n` words on from the cursor with the `n`-th before it.
     fn exchange_words(&mut self, n: RepeatCount) -> Result<bool, OutOfMemory>
-        ensures { let line = self.old.line in Finds result self.old self.new
+        ensures { let line = self.old.line in FindsToEdit result self.old self.new
             (edited_to (words_exchanged line n) (with_words_exchanged line n) self.old)
             (are_apart (words_beside line n)) }
     {
@@ -142,7 +143,7 @@ impl EditedLine {
 
     // Changes the case of the next word.
     fn change_word(&mut self, action: WordAction) -> Result<bool, OutOfMemory>
-        ensures { let line = self.old.line in Finds result self.old self.new
+        ensures { let line = self.old.line in FindsToEdit result self.old self.new
             (edited_to (word_cased action line) (with_word_cased action line) self.old)
             (is_some (next_alphanumeric line)) }
     {

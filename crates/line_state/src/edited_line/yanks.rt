@@ -1,7 +1,7 @@
 //! Texts that are put into the line.
 ghost use Rattle.std.specs.Prelude.{◌≡◌, ◌==◌, not, false, length, IfOk, IsCharBoundary};
 ghost use Rattle.line_buffer.specs.Yank.{can_pop, line_yank_popped, with_yank_pop};
-ghost use Rattle.line_state.specs.Edited.{EditsTo, Finds, KeepsFirst, Reports, edited_to, in_one_group, pops_text, with_popped, with_text, with_update_to, with_yanked, yanked_at, at_anchor, stepped_back};
+ghost use Rattle.line_state.specs.Edited.{EditsTo, FindsToEdit, KeepsFirst, Reports, edited_to, in_one_group, pops_text, with_popped, with_text, with_update_to, with_yanked, yanked_at, at_anchor, stepped_back};
 
 use super::EditedLine;
 use line_buffer::{OutOfMemory, RepeatCount};
@@ -45,7 +45,7 @@ impl EditedLine {
         n: RepeatCount,
         step_back: bool,
     ) -> Result<bool, OutOfMemory>
-        ensures reports { Finds result self.old self.new
+        ensures reports { FindsToEdit result self.old self.new
             (yanked_at anchor text.now n step_back self.old) (not (length text.now == 0)) }
         ensures unreported { IfOk result (λ done.
             done ≡ false → self.new.line.text ≡ self.old.line.text) }
@@ -89,7 +89,7 @@ impl EditedLine {
     /// # Errors
     /// `OutOfMemory` alone. The line may then be any text with its cursor on a boundary, and there are no changes to undo.
     pub fn yank_pop(&mut self, size: usize, text: &str) -> Result<bool, OutOfMemory>
-        ensures reports { Finds result self.old self.new (with_popped size text.now self.old)
+        ensures reports { FindsToEdit result self.old self.new (with_popped size text.now self.old)
             (pops_text self.old.line size text.now) }
         ensures unreported { IfOk result (λ done.
             done ≡ false → self.new.line.text ≡ self.old.line.text) }

@@ -1,6 +1,6 @@
 //! A line as it is drawn, which stays while no renderer and no prompt is lent to it.
 ghost use Rattle.std.specs.Prelude.{◌≡◌};
-ghost use Rattle.line_state.specs.Kept.{IsLeftOn, display_on, kept_of};
+ghost use Rattle.line_state.specs.Kept.{IsLeftOn, display_on, kept_of_drawn};
 
 use crate::drawn::Drawn;
 use crate::renderer::Renderer;
@@ -30,9 +30,9 @@ pub struct DrawnLine {
 impl<'out, 'prompt, W: Renderer, P: Prompt> View<'out, 'prompt, W, P> {
     /// Returns the drawn line, and the renderer and the prompt that were lent to the view. Nothing is drawn.
     pub fn release(self) -> (DrawnLine, &'out mut W, &'prompt P)
-        ensures display { ⟦<Self as Drawn>⟧.display self.entry ≡ display_on (kept_of result.0)
+        ensures display { ⟦<Self as Drawn>⟧.display self.entry ≡ display_on (kept_of_drawn result.0)
             (W.surface result.1.now) (W.screen result.1.now) (P.raw_text result.2.now) }
-        ensures left { IsLeftOn (kept_of result.0)
+        ensures left { IsLeftOn (kept_of_drawn result.0)
             (W.surface result.1.now) (W.screen result.1.now) (P.raw_text result.2.now) }
         ensures beside { W.beside result.1.now ≡ ⟦<Self as Drawn>⟧.beside self.entry }
         ensures redraws { W.redraws result.1.now ≡ ⟦<Self as Drawn>⟧.redraws self.entry }
@@ -45,9 +45,9 @@ impl<'out, 'prompt, W: Renderer, P: Prompt> View<'out, 'prompt, W, P> {
 
     /// Returns the view of a drawn line, on the renderer and after the prompt that it was drawn with. Nothing is drawn.
     pub fn resume(drawn: DrawnLine, out: &'out mut W, prompt: &'prompt P) -> Self
-        requires { IsLeftOn (kept_of drawn)
+        requires { IsLeftOn (kept_of_drawn drawn)
             (W.surface out.old) (W.screen out.old) (P.raw_text prompt.now) }
-        ensures display { ⟦<Self as Drawn>⟧.display result ≡ display_on (kept_of drawn)
+        ensures display { ⟦<Self as Drawn>⟧.display result ≡ display_on (kept_of_drawn drawn)
             (W.surface out.old) (W.screen out.old) (P.raw_text prompt.now) }
         ensures beside { ⟦<Self as Drawn>⟧.beside result ≡ W.beside out.old }
         ensures redraws { ⟦<Self as Drawn>⟧.redraws result ≡ W.redraws out.old }

@@ -6,7 +6,7 @@ use Rattle.console.specs.Grammar.{sign}
 use Rattle.console.specs.Tokens.{symbol_of}
 use Rattle.console.proofs.arithmetic.parts.+parts.Goals.{read_factor-in_default-via-in-Some+in-Operator+in_default, read_factor-in_default-via-in-Some+in_default, read_factor-in_default-via-in_default}
 use Rattle.console.specs.Names.{value_in}
-use Rattle.console.specs.Parts.{IsAt, IsPart, Settles}
+use Rattle.console.specs.Parts.{IsSymbolAt, IsPart, Settles}
 use Rattle.console.proofs.PartLemmas.{looser_part}
 use Rattle.console.proofs.SettleLemmas.{first_goes, first_refused, going_on, right_refused, operation_refused, all_settles, minus_refused, bracket_refused, other_settles, end_settles}
 use Rattle.console.proofs.arithmetic.parts.+parts.Goals as goal
@@ -107,8 +107,8 @@ read_factor-returns-in_err-inner-in-Some-Operator-Minus-clause-settled t c =
     let p = err_from_is_err_and c.from_residual-in_err-inner-in-Some-Operator-Minus.result c.from_residual-in_err-inner-in-Some-Operator-Minus.ensures.1 in
     subst (Settles tokens named Factor c.args.at) (sym (p.1 ∙ ap Err p.2))
     (minus_refused tokens named c.args.at fault
-    (subst (λ o. IsAt tokens c.args.at (sign o)) c.in-Some-Operator-Minus.field-0-0-is
-    (subst (λ t'. IsAt tokens c.args.at (symbol_of t')) c.in-Some-Operator-Minus.field-0-is c.in-Some-Operator-Minus.ensures))
+    (subst (λ o. IsSymbolAt tokens c.args.at (sign o)) c.in-Some-Operator-Minus.field-0-0-is
+    (subst (λ t'. IsSymbolAt tokens c.args.at (symbol_of t')) c.in-Some-Operator-Minus.field-0-is c.in-Some-Operator-Minus.ensures))
     c.in_err-inner-in-Some-Operator-Minus.ensures.settled)
 
 -- the fault of what stands in brackets
@@ -120,5 +120,5 @@ read_factor-returns-in_err-inner-in-Some-Opening-clause-settled t c =
     let p = err_from_is_err_and c.from_residual-in_err-inner-in-Some-Opening.result c.from_residual-in_err-inner-in-Some-Opening.ensures.1 in
     subst (Settles tokens named Factor c.args.at) (sym (p.1 ∙ ap Err p.2))
     (bracket_refused tokens named c.args.at fault
-    (subst (λ t'. IsAt tokens c.args.at (symbol_of t')) c.in-Some-Opening.field-0-is c.in-Some-Opening.ensures)
+    (subst (λ t'. IsSymbolAt tokens c.args.at (symbol_of t')) c.in-Some-Opening.field-0-is c.in-Some-Opening.ensures)
     c.in_err-inner-in-Some-Opening.ensures.settled)

@@ -6,7 +6,7 @@ use Rattle.std.proofs.lemmas.List.Elements.{All-push}
 use Rattle.std.proofs.lemmas.Result.{err_from_is_err_and}
 use Rattle.std.proofs.lemmas.Str.{IsCharBoundary-start}
 use Rattle.console.specs.declared.arithmetic.complaint.Refusal.{Refusal}
-use Rattle.console.specs.Tokens.{LeadsOnlyTo, LeadsTo, symbols_of}
+use Rattle.console.specs.Tokens.{SpellsOnlyUpTo, SpellsUpTo, symbols_of}
 use Rattle.console.proofs.SpellingLemmas.{LeadsOnlyTo-push, LeadsTo-push, spelled_whole}
 use Rattle.console.proofs.ReadingLemmas.{only_whole, too_large_behind}
 use Rattle.console.proofs.arithmetic.token.scan.Goals as goal
@@ -26,9 +26,9 @@ loop-tokens-preserved c =
     let reads = rw c.in-Some.is at c.in_ok-read.ensures.ok in
     let pushed = chosen _ _ _ _ c.push.ensures.items (ap is_ok c.in_ok-push.was) in
     record {
-      leads = subst (λ ts. LeadsTo text 0 (symbols_of ts) c.skip_blanks-at-in-Some.result) (sym pushed)
+      leads = subst (λ ts. SpellsUpTo text 0 (symbols_of ts) c.skip_blanks-at-in-Some.result) (sym pushed)
           (LeadsTo-push text c.loop-tokens.at c.loop-tokens.tokens.items _ c.in-Some.read _ before.leads reads refl c.skip_blanks-at-in-Some.ensures.leads);
-      only = subst (λ ts. LeadsOnlyTo text 0 (symbols_of ts) c.skip_blanks-at-in-Some.result) (sym pushed)
+      only = subst (λ ts. SpellsOnlyUpTo text 0 (symbols_of ts) c.skip_blanks-at-in-Some.result) (sym pushed)
           (LeadsOnlyTo-push text c.loop-tokens.at c.loop-tokens.tokens.items _ c.in-Some.read _ before.only reads refl c.skip_blanks-at-in-Some.ensures.only);
       unblank = c.skip_blanks-at-in-Some.ensures.stops;
       places = subst (All (λ t. IsCharBoundary text t.place)) (sym pushed) (All-push (λ t. IsCharBoundary text t.place) c.loop-tokens.tokens.items _ before.places before.boundary);

@@ -1,12 +1,12 @@
 use Rattle.std.proofs.Common.{◌-◌, ◌≤◌, length}
 use Rattle.std.specs.Prelude.{All, IsCharBoundary}
-use Rattle.console.specs.Tokens.{IsUnblankAt, LeadsOnlyTo, LeadsTo, symbols_of}
+use Rattle.console.specs.Tokens.{IsUnblankAt, SpellsOnlyUpTo, SpellsUpTo, symbols_of}
 use Rattle.console.proofs.arithmetic.token.scan.Given as goal
 
 abbrev pub invariant-loop-tokens : goal.invariant-loop-tokens
 invariant-loop-tokens l = record {
-  leads : LeadsTo l.text 0 (symbols_of l.tokens.items) l.at;
-  only : LeadsOnlyTo l.text 0 (symbols_of l.tokens.items) l.at;
+  leads : SpellsUpTo l.text 0 (symbols_of l.tokens.items) l.at;
+  only : SpellsOnlyUpTo l.text 0 (symbols_of l.tokens.items) l.at;
   unblank : IsUnblankAt l.text l.at;
   places : All (λ t. IsCharBoundary l.text t.place) l.tokens.items;
   short : length l.tokens.items ≤ l.at;

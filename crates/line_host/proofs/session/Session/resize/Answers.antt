@@ -1,5 +1,5 @@
 use Rattle.std.proofs.Common.{ap, subst, ◌∙◌}
-use Rattle.line_host.specs.Helped.{Helped, answers}
+use Rattle.line_host.specs.Helped.{Helped, answers_by}
 use Rattle.line_host.specs.Hosted.{with_editor}
 use Rattle.line_session.specs.Sitting.{Keeps, Sitting, written_so_far}
 use Rattle.line_host.proofs.HostedLemmas.{done_or_fault}
@@ -17,6 +17,6 @@ returns c =
       kills = c.resize-drawn.ensures.kills ∙ ap (λ s. s.kills) same;
       items = c.resize-drawn.ensures.items ∙ ap (λ s. s.items) same;
       keeps = λ positive.
-          subst (λ (s : Sitting Helped). Keeps answers (record s { columns = c.args.columns; rows = c.args.rows }) c.resize-drawn.new.self) same
+          subst (λ (s : Sitting Helped). Keeps answers_by (record s { columns = c.args.columns; rows = c.args.rows }) c.resize-drawn.new.self) same
           c.resize-drawn.ensures.keeps;
     }

@@ -1,6 +1,6 @@
 use Rattle.std.proofs.Common.{rules, ◌≡◌, length, arith}
 use Rattle.line_state.proofs.PlainTextLemmas.{converted}
-use Rattle.line_screen.specs.Measure.{EndsPlain}
+use Rattle.line_screen.specs.Measure.{PlainTextEndsAt}
 use Rattle.line_screen.specs.MeasureLaws.{EndsPlain-take}
 use Rattle.line_screen.proofs.plain.Plain.end_of_first.Goals as goal
 
@@ -11,7 +11,7 @@ returns g c =
     let text = c.as_str.result.now in
     let gone = c.in_ok-gone.ensures.cases in
     let plain = c.is_plain.ensures (search rules) in
-    let known : EndsPlain self.columns text self.origin end = rw c.as_str.ensures.value (plain.0, plain.1, c.requires) in
+    let known : PlainTextEndsAt self.columns text self.origin end = rw c.as_str.ensures.value (plain.0, plain.1, c.requires) in
     let columns : length c.in_ok-gone.gone.now ≡ c.in_ok-columns.columns =
     converted _ c.try_from.result _ _ c.try_from.ensures c.in_ok-columns.ensures.value in
     rw c.as_str.ensures.value at
