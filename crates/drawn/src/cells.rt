@@ -7,8 +7,9 @@ use line_script::Script;
 use std::io::Write;
 use unicode_segmentation::UnicodeSegmentation;
 
-/// Prints the places of prompt, line and hint, a line for each cluster: row, column, and its bytes as hexadecimal numbers. The hint
-/// comes right after the line. The last line is the cursor's place.
+/// Prints the places of prompt, line and hint, a line for each cluster: row, column, and its bytes
+/// as hexadecimal numbers. The hint comes right after the line. The last line is the cursor's
+/// place.
 pub fn print_cells<O: Write>(screen: &Plain<Script>, columns: Unit, out: &mut O) -> Result<()> {
     let mut place = Position { row: 0, col: 0 };
     place = print_text(screen.prompt(), place, columns, out)?;
@@ -43,7 +44,8 @@ fn print_text<O: Write>(
     Ok(place)
 }
 
-/// Where a cluster stands that is written at a place and ends at another: there, or where it does not fit, on the next row.
+/// Where a cluster stands that is written at a place and ends at another: there, or where it does
+/// not fit, on the next row.
 fn first_place(place: Position, end: Position) -> Position {
     // where it fills the row, it ends on the row below
     let row = if end.col == 0 {

@@ -1,5 +1,6 @@
-//! Runs a script of keys through the line editor on a terminal, and prints after each turn the bytes that were written, and where the
-//! terminal is to show what. `tests/terminal/` hands the bytes to terminals that others wrote.
+//! Runs a script of keys through the line editor on a terminal, and prints after each turn the
+//! bytes that were written, and where the terminal is to show what. `tests/terminal/` hands the
+//! bytes to terminals that others wrote.
 #![tactic(auto)]
 
 mod cells;

@@ -10,8 +10,9 @@ use std::io::Write;
 
 /// A screen that prints what a turn did.
 pub trait Told: Renderer<Reader = Script> + Resizable {
-    /// Prints what was written after the first `told` bytes, or what is shown; and before it that the screen was resized,
-    /// where it was and this is to be printed. Returns how many bytes there are.
+    /// Prints what was written after the first `told` bytes, or what is shown; and before it that
+    /// the screen was resized, where it was and this is to be printed. Returns how many bytes there
+    /// are.
     fn tell<O: Write>(&self, resized: bool, told: usize, out: &mut O) -> Result<usize>;
 }
 

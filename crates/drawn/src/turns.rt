@@ -31,7 +31,8 @@ pub fn play<R: Read + Drop, O: Write>(alloc: Global, mut input: R, out: &mut O) 
     print_script(alloc, script.as_slice(), out)
 }
 
-/// Prints the turns of a script on its own columns, on two and on one, and where the screen is resized.
+/// Prints the turns of a script on its own columns, on two and on one, and where the screen is
+/// resized.
 fn print_script<O: Write>(alloc: Global, script: &[u8], out: &mut O) -> Result<()> {
     let columns = parsed(alloc, script)?.columns;
     for (first, other) in [
@@ -46,8 +47,8 @@ fn print_script<O: Write>(alloc: Global, script: &[u8], out: &mut O) -> Result<(
     Ok(())
 }
 
-/// Prints the turns of a script on a screen that begins with so many columns, and has the other ones after every other resize:
-/// what each wrote, and then what each shows.
+/// Prints the turns of a script on a screen that begins with so many columns, and has the other
+/// ones after every other resize: what each wrote, and then what each shows.
 fn print_turns<O: Write>(
     alloc: Global,
     script: &[u8],
@@ -73,8 +74,8 @@ fn parsed(alloc: Global, script: &[u8]) -> Result<Parsed> {
     }
 }
 
-/// Takes the turns of a script on a screen, after a prompt in bold green, and prints what it tells of each. A turn that fails ends the
-/// run.
+/// Takes the turns of a script on a screen, after a prompt in bold green, and prints what it tells
+/// of each. A turn that fails ends the run.
 fn print_run<W: Told + Drop, O: Write>(
     alloc: Global,
     mut screen: W,
@@ -108,8 +109,8 @@ fn print_run<W: Told + Drop, O: Write>(
     Ok(())
 }
 
-/// Returns the columns that a screen has from this turn on, if it is resized before it: these, or after every other resize the other
-/// ones.
+/// Returns the columns that a screen has from this turn on, if it is resized before it: these, or
+/// after every other resize the other ones.
 fn resize_before(turn: u64, first: Unit, other: Unit) -> Option<Unit>
     ensures { IfSome result (λ columns. 0 < columns) }
 {
@@ -124,8 +125,8 @@ fn resize_before(turn: u64, first: Unit, other: Unit) -> Option<Unit>
     Some(columns.max(1))
 }
 
-/// Prints what the last turn did, and what a resize to these columns does, if there is one; and takes the next turn. Returns whether
-/// the line goes on.
+/// Prints what the last turn did, and what a resize to these columns does, if there is one; and
+/// takes the next turn. Returns whether the line goes on.
 fn take<'out, 'prompt, W: Told, H: Helper, P: Prompt, S: History, O: Write>(
     state: &mut State<'out, 'prompt, W, H, P, S>,
     input: &mut InputState<'_>,

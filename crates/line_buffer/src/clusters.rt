@@ -23,8 +23,8 @@ fn behind_first(text: &str, n: RepeatCount) -> &str
     }
 }
 
-/// The same where the first `n` bytes and the next one are printable ASCII or newlines, of which each is a cluster. Else
-/// `None`.
+/// The same where the first `n` bytes and the next one are printable ASCII or newlines, of which
+/// each is a cluster. Else `None`.
 fn behind_plain(text: &str, n: usize) -> Option<&str>
     ensures { IfSome result (λ rest. rest.now ≡ behind_first n text.now) }
 {
@@ -58,8 +58,8 @@ fn before_last(text: &str, n: RepeatCount) -> &str
     }
 }
 
-/// The same where the last `n` bytes and the one before are printable ASCII or newlines, of which each is a cluster. Else
-/// `None`.
+/// The same where the last `n` bytes and the one before are printable ASCII or newlines, of which
+/// each is a cluster. Else `None`.
 fn before_plain(text: &str, n: usize) -> Option<&str>
     ensures { IfSome result (λ front. front.now ≡ before_last n text.now) }
 {
@@ -97,8 +97,8 @@ pub(crate) fn last_start(text: &str, n: RepeatCount) -> usize
     before_last(text, n).len()
 }
 
-/// Returns where the cluster of the text begins that holds the byte at `place`. Where the text ends before that byte, it is the
-/// text's end.
+/// Returns where the cluster of the text begins that holds the byte at `place`. Where the text ends
+/// before that byte, it is the text's end.
 pub fn cluster_start(text: &str, place: usize) -> usize
     ensures { IsOffset result text.now (cluster_start text.now place) }
 {

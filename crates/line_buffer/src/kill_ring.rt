@@ -84,13 +84,14 @@ impl KillRing {
         self.last = Action::Other;
     }
 
-    /// Keeps a text that was killed: right after a kill it joins the current slot, on the side that `mode`
-    /// says; else it takes the next slot, which becomes the current one. A ring of size 0 keeps nothing.
+    /// Keeps a text that was killed: right after a kill it joins the current slot, on the side that
+    /// `mode` says; else it takes the next slot, which becomes the current one. A ring of size 0
+    /// keeps nothing.
     ///
     /// # Errors
     ///
-    /// `OutOfMemory` where an allocation fails; then the ring is as it was, but that a kill was done
-    /// last.
+    /// `OutOfMemory` where an allocation fails; then the ring is as it was, but that a kill was
+    /// done last.
     pub fn kill(&mut self, text: &str, mode: Mode) -> Result<(), OutOfMemory>
         ensures ring { OnOk result (self.new ≡ after_kill self.old text.now mode) }
         ensures err { OnErr result (self.new ≡ with_last self.old killed) }
@@ -217,7 +218,8 @@ impl KillRing {
         self.put(next, text)
     }
 
-    /// Returns the slot after the current one: 0 on an empty ring and after the last that there may be.
+    /// Returns the slot after the current one: 0 on an empty ring and after the last that there may
+    /// be.
     fn next_slot(&self) -> usize
         ensures slot { result ≡ next_slot self.now }
         ensures within { result ≤ length self.now.slots }

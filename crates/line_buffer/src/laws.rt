@@ -27,7 +27,8 @@ pub fn places_are_between_clusters()
     ensures { PlacesAreBetweenClusters }
 {}
 
-/// Where groups fit, as `Changeset::len` says that they do, and none is counted as open, none is open.
+/// Where groups fit, as `Changeset::len` says that they do, and none is counted as open, none is
+/// open.
 pub fn none_counted_none_open()
     ensures { NoneCountedNoneOpen }
 {}

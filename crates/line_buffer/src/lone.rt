@@ -6,7 +6,8 @@ ghost use Rattle.line_buffer.specs.declared.lone.TheConstants.{NARROW, WIDE};
 
 use crate::printable::is_printable;
 
-/// Characters past ASCII that stand alone and take one column: from the first of each range to the last.
+/// Characters past ASCII that stand alone and take one column: from the first of each range to the
+/// last.
 #[rattlefmt::skip]
 static NARROW: [(u32, u32); 10] = [
     (0xA1, 0xAC), (0xAE, 0x2FF), (0x370, 0x377), (0x37A, 0x37F), (0x384, 0x482), (0x48A, 0x52F),
@@ -23,8 +24,8 @@ static WIDE: [(u32, u32); 11] = [
 /// The first of the characters in `WIDE`; those in `NARROW` stand before it.
 const FIRST_WIDE: char = '\u{3001}';
 
-/// Returns the columns of a character that joins no other, by itself. `None` for the others, and for those of which this is
-/// not known.
+/// Returns the columns of a character that joins no other, by itself. `None` for the others, and
+/// for those of which this is not known.
 pub fn lone_width(c: char) -> Option<usize>
     ensures { IfSome result (λ width. IsLone c width) }
 {

@@ -68,7 +68,8 @@ pub enum Movement {
     ForwardWord(RepeatCount, At, Word),
     /// To a character, so many times.
     ViCharSearch(RepeatCount, CharSearch),
-    /// To the first character of the cursor's line that is not blank; from a blank line, to that of a later line.
+    /// To the first character of the cursor's line that is not blank; from a blank line, to that of
+    /// a later line.
     ViFirstPrint,
     /// So many clusters back.
     BackwardChar(RepeatCount),

@@ -28,7 +28,8 @@ pub fn is_plain_text(text: &str) -> bool
     are_plain(text.as_bytes())
 }
 
-/// Returns whether the bytes are printable ASCII and newlines alone. All are looked at, many at once.
+/// Returns whether the bytes are printable ASCII and newlines alone. All are looked at, many at
+/// once.
 pub(crate) fn are_plain(bytes: &[u8]) -> bool
     ensures { result ≡ list_all printable.is_plain bytes.now }
 {

@@ -16,7 +16,8 @@ use std::alloc::Global;
 use std::marker::Model;
 use steps::take_steps;
 
-/// The least room, in bytes, of a text that was inserted, so that a word typed after it needs no other.
+/// The least room, in bytes, of a text that was inserted, so that a word typed after it needs no
+/// other.
 const TYPED_ROOM: usize = 24;
 
 /// The changes of a line, by which it can be brought back, and how many groups of them are open.
@@ -145,8 +146,9 @@ impl Changeset {
         }
     }
 
-    /// Returns a copy of the text that was inserted last: of the newest entry but ends, the text that was
-    /// inserted or replaced another. `None` where that entry is a begin or a delete, or there is none.
+    /// Returns a copy of the text that was inserted last: of the newest entry but ends, the text
+    /// that was inserted or replaced another. `None` where that entry is a begin or a delete, or
+    /// there is none.
     ///
     /// # Errors
     ///
@@ -290,7 +292,8 @@ impl Changeset {
         Ok(())
     }
 
-    /// Records that the alphanumeric character was inserted at `place`: it joins a newest insert that ends there.
+    /// Records that the alphanumeric character was inserted at `place`: it joins a newest insert
+    /// that ends there.
     fn insert_joined(&mut self, place: usize, c: char) -> Result<(), OutOfMemory>
         ensures { Adds result self.old self.new (with_joined_insert place (encode_utf8 c)) }
     {

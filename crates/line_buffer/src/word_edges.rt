@@ -184,7 +184,8 @@ pub(crate) fn on_by_words(text: &str, at: At, word: Word, n: RepeatCount) -> Opt
     }
 }
 
-/// Returns where the `n`-th word after the text's first cluster has its last cluster, or for Emacs' words ends.
+/// Returns where the `n`-th word after the text's first cluster has its last cluster, or for Emacs'
+/// words ends.
 fn before_end(text: &str, word: Word, n: RepeatCount) -> Option<usize>
     requires count { 0 < n }
     requires some { 0 < length text.now }
@@ -199,7 +200,8 @@ fn before_end(text: &str, word: Word, n: RepeatCount) -> Option<usize>
     }
 }
 
-/// Returns where the last cluster of the `n`-th word after the text's first cluster begins, and where it ends.
+/// Returns where the last cluster of the `n`-th word after the text's first cluster begins, and
+/// where it ends.
 fn nth_end_behind(text: &str, word: Word, n: RepeatCount) -> Option<(usize, usize)>
     requires { 0 < n }
     ensures places { let cs = clusters text.now in

@@ -1,4 +1,5 @@
-//! The line editor for C: each function takes the handle of a session. The header of `hosts/c` says what it does.
+//! The line editor for C: each function takes the handle of a session. The header of `hosts/c` says
+//! what it does.
 #![tactic(auto)]
 
 ghost use Rattle.std.specs.Prelude.{◌≡◌, [], None, Some, IfNone, MatchOption, if◌then◌else◌};
@@ -83,7 +84,8 @@ pub extern "C" fn line_c_begin(handle: &mut Handle, alloc: Global, prompt: &[u8]
     )
 }
 
-/// Begins a line after a prompt, without styles and with them, with these texts before and after the cursor.
+/// Begins a line after a prompt, without styles and with them, with these texts before and after
+/// the cursor.
 #[unsafe(no_mangle)]
 pub extern "C" fn line_c_begin_with(
     handle: &mut Handle,
@@ -147,7 +149,8 @@ pub extern "C" fn line_c_resize(handle: &mut Handle, alloc: Global, columns: u16
     on_session!(handle, alloc, |session| session.resize(columns, rows))
 }
 
-/// Reports whether bytes have begun something, which calls of `line_c_flush` would settle: 1 where they have, and else 0.
+/// Reports whether bytes have begun something, which calls of `line_c_flush` would settle: 1 where
+/// they have, and else 0.
 #[unsafe(no_mangle)]
 pub extern "C" fn line_c_is_waiting(handle: &mut Handle, alloc: Global, waiting: &mut u8) -> u32
     ensures session { OnSession handle.old handle.new result (λ old new came.
@@ -161,8 +164,8 @@ pub extern "C" fn line_c_is_waiting(handle: &mut Handle, alloc: Global, waiting:
     })
 }
 
-/// Takes bytes that are to be written to the terminal, as many as the buffer has room for. Reports how many: 0 where all were
-/// taken.
+/// Takes bytes that are to be written to the terminal, as many as the buffer has room for. Reports
+/// how many: 0 where all were taken.
 #[unsafe(no_mangle)]
 pub extern "C" fn line_c_output(
     handle: &mut Handle,
@@ -182,7 +185,8 @@ pub extern "C" fn line_c_output(
     })
 }
 
-/// Copies the text of the line that goes on, or else of the one that was submitted last. Reports its length in bytes.
+/// Copies the text of the line that goes on, or else of the one that was submitted last. Reports
+/// its length in bytes.
 #[unsafe(no_mangle)]
 pub extern "C" fn line_c_line(
     handle: &mut Handle,
@@ -224,7 +228,8 @@ pub extern "C" fn line_c_history_load(handle: &mut Handle, alloc: Global, text: 
     on_session!(handle, alloc, |session| session.load_history(text))
 }
 
-/// Makes the text of the history, to be taken by `line_c_saved`: of all lines, or where `append` is not 0 of the new ones.
+/// Makes the text of the history, to be taken by `line_c_saved`: of all lines, or where `append` is
+/// not 0 of the new ones.
 #[unsafe(no_mangle)]
 pub extern "C" fn line_c_history_save(handle: &mut Handle, alloc: Global, append: u8) -> u32
     ensures { OnSession handle.old handle.new result
@@ -237,7 +242,8 @@ pub extern "C" fn line_c_history_save(handle: &mut Handle, alloc: Global, append
     )
 }
 
-/// Takes bytes of the text of the history, as many as the buffer has room for. Reports how many: 0 where all were taken.
+/// Takes bytes of the text of the history, as many as the buffer has room for. Reports how many: 0
+/// where all were taken.
 #[unsafe(no_mangle)]
 pub extern "C" fn line_c_saved(
     handle: &mut Handle,

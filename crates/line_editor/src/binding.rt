@@ -63,7 +63,8 @@ impl Event {
         Ok(Event::KeySeq(sequence.to_vec(alloc)?))
     }
 
-    /// Returns the input event with each of its keys in normal form, as `KeyEvent::normalize` gives it.
+    /// Returns the input event with each of its keys in normal form, as `KeyEvent::normalize` gives
+    /// it.
     pub fn normalize(self) -> Event
         ensures { chord_of result ≡ normal_chord (chord_of self) }
     {
@@ -96,7 +97,8 @@ fn normalize_each(keys: &mut [KeyEvent])
     }
 }
 
-/// What a handler is shown of the moment in which its key was read: edit mode, input mode, hint, text and cursor.
+/// What a handler is shown of the moment in which its key was read: edit mode, input mode, hint,
+/// text and cursor.
 #[derive(Clone, Copy)]
 pub struct EventContext<'r> {
     mode: EditMode,
@@ -172,16 +174,16 @@ impl<'r> EventContext<'r> {
     }
 }
 
-/// Answers a key or a key sequence with a command that may depend on the moment, or with none. A lawful handler's
-/// answer is a function of what it is handed.
+/// Answers a key or a key sequence with a command that may depend on the moment, or with none. A
+/// lawful handler's answer is a function of what it is handed.
 pub trait ConditionalEventHandler: Drop {
     ghost sure: { Self → Bool };
 
     ghost answer: { Self → Asked → Option Command };
 
-    /// Returns the command for the input event `evt`, typed with the count `n`, or with its opposite where `positive` is
-    /// false. With None a key is looked up in the reader's own bindings, and then in the tables; after a key sequence one
-    /// more key is read.
+    /// Returns the command for the input event `evt`, typed with the count `n`, or with its
+    /// opposite where `positive` is false. With None a key is looked up in the reader's own
+    /// bindings, and then in the tables; after a key sequence one more key is read.
     ///
     /// # Errors
     /// `Io`, only where this handler is not sure, and `Memory`.
@@ -243,8 +245,8 @@ impl ConditionalEventHandler for NoHandler {
 
 /// What an input event is bound to.
 ///
-/// Handlers are of any types, each in a box. A program whose handlers are all of one type can name it instead, and one that
-/// binds commands alone names `NoHandler`.
+/// Handlers are of any types, each in a box. A program whose handlers are all of one type can name
+/// it instead, and one that binds commands alone names `NoHandler`.
 #[derive(Drop)]
 pub enum EventHandler<C = Box<dyn ConditionalEventHandler>> {
     /// The same command at each moment.

@@ -15,11 +15,12 @@ mod tree;
 
 /// The commands that a program binds to events: a map from input event to handler.
 ///
-/// A key is looked up as it is read, and the map keeps an event as it was bound. Where a reader returns its keys in normal
-/// form, bind events in normal form too (`Event::normalize`).
+/// A key is looked up as it is read, and the map keeps an event as it was bound. Where a reader
+/// returns its keys in normal form, bind events in normal form too (`Event::normalize`).
 ///
-/// Key sequences are kept as a tree, in which those that begin with the same keys share the nodes of these keys. A look-up
-/// walks from node to node by its keys, and looks at no more than the children of each.
+/// Key sequences are kept as a tree, in which those that begin with the same keys share the nodes
+/// of these keys. A look-up walks from node to node by its keys, and looks at no more than the
+/// children of each.
 pub struct Bindings<C = Box<dyn ConditionalEventHandler>> {
     any: Option<EventHandler<C>>,
     mouse: Option<EventHandler<C>>,
@@ -58,7 +59,8 @@ impl<C: ConditionalEventHandler> Bindings<C> {
         }
     }
 
-    /// Binds an input event to a handler. Returns the handler that it was bound to before, if it was.
+    /// Binds an input event to a handler. Returns the handler that it was bound to before, if it
+    /// was.
     ///
     /// # Errors
     /// That memory ran out. Then the map is as it was.
@@ -106,8 +108,8 @@ impl<C: ConditionalEventHandler> Bindings<C> {
         }
     }
 
-    /// Returns the number of different beginnings of the key sequences that are bound. A sequence is one of its own
-    /// beginnings, and the empty one is not counted.
+    /// Returns the number of different beginnings of the key sequences that are bound. A sequence
+    /// is one of its own beginnings, and the empty one is not counted.
     pub fn nodes(&self) -> usize
         ensures { let g = C.ConditionalEventHandler in
             result ≡ node_count (bound_of g self.now) }

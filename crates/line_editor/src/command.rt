@@ -31,18 +31,21 @@ pub enum Status {
     Submit,
 }
 
-/// Does what a command says, on the line, its history and the kill ring, and draws what changed. Returns whether the
-/// next command is to be read or the line is submitted. Abort, Complete, CompleteBackward, ForwardSearchHistory,
-/// QuotedInsert, ReverseSearchHistory and Suspend do nothing here: they are left to the program above.
+/// Does what a command says, on the line, its history and the kill ring, and draws what changed.
+/// Returns whether the next command is to be read or the line is submitted. Abort, Complete,
+/// CompleteBackward, ForwardSearchHistory, QuotedInsert, ReverseSearchHistory and Suspend do
+/// nothing here: they are left to the program above.
 ///
 /// # Errors
-/// `Eof` for the end of the input on an empty line alone, and `Interrupted` for an interrupt alone, with the kept cursor at
-/// the kept end. Another error is one of input or output, where the renderer has failed or where those whom the command asks
-/// may fail, or that memory ran out. After one of input or output the line, its cursor, changes and history index are those
-/// of one moment of the command: before it, halfway or after it. The kill ring is the one that the command leaves; where that
-/// is another one than before, the line is not the one from before. Where memory ran out the line is of one moment, too, or
-/// there are no changes, the saved line and the history index are those of one moment, and the text, the cursor and the hint
-/// may be any; the kill ring is the one that the command leaves, the one from before, or that one with a kill as its last
+/// `Eof` for the end of the input on an empty line alone, and `Interrupted` for an interrupt alone,
+/// with the kept cursor at the kept end. Another error is one of input or output, where the
+/// renderer has failed or where those whom the command asks may fail, or that memory ran out. After
+/// one of input or output the line, its cursor, changes and history index are those of one moment
+/// of the command: before it, halfway or after it. The kill ring is the one that the command
+/// leaves; where that is another one than before, the line is not the one from before. Where memory
+/// ran out the line is of one moment, too, or there are no changes, the saved line and the history
+/// index are those of one moment, and the text, the cursor and the hint may be any; the kill ring
+/// is the one that the command leaves, the one from before, or that one with a kill as its last
 /// action.
 pub fn execute<
     'out,
@@ -228,7 +231,8 @@ impl<'out, 'prompt, W: Renderer, H: Helper, P: Prompt, S: History> State<
         Ok(Status::Submit)
     }
 
-    // Submits a valid line, and puts a newline into another one unless a message says why it is refused.
+    // Submits a valid line, and puts a newline into another one unless a message says why it is
+    // refused.
     fn accept_or_insert_line(&mut self, accept_in_the_middle: bool) -> Result<Status>
         ensures { let e = ⟦<Self as EditorState>⟧ in (input : Input) → (indent : ℕ) → (kills : Ring)
             → Executes e result self.old input indent kills
@@ -257,8 +261,8 @@ enum Reply {
     GoesOn,
 }
 
-// Returns what becomes of a line by its validation result. A valid one is submitted in the middle, where that is allowed, or
-// at the end of the input.
+// Returns what becomes of a line by its validation result. A valid one is submitted in the middle,
+// where that is allowed, or at the end of the input.
 fn reply_for(verdict: &ValidationResult, in_the_middle: bool, at_end: bool) -> Reply
     ensures { result ≡ reply_to (verdict_of verdict.now) (in_the_middle || at_end) }
 {

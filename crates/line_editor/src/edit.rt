@@ -143,8 +143,8 @@ impl<'out, 'prompt, W: Renderer, H: Helper, P: Prompt, S: History> State<
         Ok(State::with_edited(alloc, out, prompt, helper, ctx, edited))
     }
 
-    /// Returns the edit state of a line after the prompt, with the cursor at byte `cursor` of it, with no changes and with
-    /// nothing drawn yet.
+    /// Returns the edit state of a line after the prompt, with the cursor at byte `cursor` of it,
+    /// with no changes and with nothing drawn yet.
     ///
     /// # Errors
     /// That memory ran out.
@@ -174,7 +174,8 @@ impl<'out, 'prompt, W: Renderer, H: Helper, P: Prompt, S: History> State<
         Ok(State::with_edited(alloc, out, prompt, helper, ctx, edited))
     }
 
-    /// Returns the edit state of a line with its changes after the prompt, with nothing drawn yet. It takes no memory.
+    /// Returns the edit state of a line with its changes after the prompt, with nothing drawn yet.
+    /// It takes no memory.
     pub fn with_edited(
         alloc: Global,
         out: &'out mut W,
@@ -219,7 +220,8 @@ impl<'out, 'prompt, W: Renderer, H: Helper, P: Prompt, S: History> State<
         self.line.edited.line().pos()
     }
 
-    /// Returns the kept layout: where the prompt ends, and where the cursor and the end of what is shown are.
+    /// Returns the kept layout: where the prompt ends, and where the cursor and the end of what is
+    /// shown are.
     pub fn layout(&self) -> &Layout
         ensures { result.now ≡ (⟦<Self as EditorState>⟧.display self.now).layout }
     {
@@ -255,8 +257,8 @@ impl<'out, 'prompt, W: Renderer, H: Helper, P: Prompt, S: History> State<
         self.parties.history()
     }
 
-    /// Returns the history index: which line of the history is edited. For the line that is being written it is the number
-    /// of the history's lines.
+    /// Returns the history index: which line of the history is edited. For the line that is being
+    /// written it is the number of the history's lines.
     pub fn place(&self) -> usize
         ensures within { result ≤ length (⟦<Self as EditorState>⟧.environment self.now).lines }
         ensures value { result ≡ (⟦<Self as EditorState>⟧.draft self.now).index }
@@ -271,10 +273,12 @@ impl<'out, 'prompt, W: Renderer, H: Helper, P: Prompt, S: History> State<
         self.view.layout().default_prompt
     }
 
-    /// Asks the helper for the hint of the line; a hint that displays nothing counts as none. Nothing is drawn.
+    /// Asks the helper for the hint of the line; a hint that displays nothing counts as none.
+    /// Nothing is drawn.
     ///
     /// # Errors
-    /// `Io`, only where the helper, or the history that it may ask, is not sure, and `Memory`. The hint then stays.
+    /// `Io`, only where the helper, or the history that it may ask, is not sure, and `Memory`. The
+    /// hint then stays.
     pub fn hint(&mut self) -> Result<()>
         ensures draft { let e = ⟦<Self as EditorState>⟧ in OnOk result
             (e.draft self.new ≡ hinted (e.environment self.old) (e.draft self.old)) }
@@ -359,7 +363,8 @@ impl<'out, 'prompt, W: Renderer, H: Helper, P: Prompt, S: History> State<
         Ok(self.line.hint.is_none() && !lit)
     }
 
-    // Asks for the hint of a line that got a character at its end, and draws that character, or all again.
+    // Asks for the hint of a line that got a character at its end, and draws that character, or all
+    // again.
     #[tactic(auto, using(crate::proofs::EditLemmas::shown_hint))]
     pub(crate) fn show_typed(&mut self, c: char) -> Result<()>
         requires printable { is_printable c ≡ true }
@@ -380,7 +385,8 @@ impl<'out, 'prompt, W: Renderer, H: Helper, P: Prompt, S: History> State<
         Ok(())
     }
 
-    // Asks for the hint of a line that lost so many printable characters at its end, and clears them, or draws all again.
+    // Asks for the hint of a line that lost so many printable characters at its end, and clears
+    // them, or draws all again.
     #[tactic(auto, using(crate::proofs::EditLemmas::shown_hint))]
     pub(crate) fn show_killed(&mut self, count: usize) -> Result<()>
         requires { count ≤ (⟦<Self as EditorState>⟧.display self.old).layout.end.col }
@@ -399,7 +405,8 @@ impl<'out, 'prompt, W: Renderer, H: Helper, P: Prompt, S: History> State<
         self.view.take_back(count)
     }
 
-    // Asks for the hint and draws the line again where an edit was reported. Else the screen cursor moves to the line's cursor.
+    // Asks for the hint and draws the line again where an edit was reported. Else the screen cursor
+    // moves to the line's cursor.
     pub(crate) fn show_edit(&mut self, reported: bool) -> Result<()>
         ensures { ShowsEdit ⟦<Self as EditorState>⟧ reported result self.old self.new }
     {

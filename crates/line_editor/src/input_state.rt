@@ -26,8 +26,8 @@ use line_keys::refresher::{InputMode, Refresher};
 use phrases::Read;
 use remembered::Remembered;
 
-/// Reads keys as commands, by the program's bindings, the reader's own and the tables, and remembers what the next
-/// commands depend on.
+/// Reads keys as commands, by the program's bindings, the reader's own and the tables, and
+/// remembers what the next commands depend on.
 pub struct InputState<'b, C = Box<dyn ConditionalEventHandler>> {
     bindings: &'b Bindings<C>,
     remembered: Remembered,
@@ -43,7 +43,8 @@ impl<C> Drop for InputState<'_, C> {
 }
 
 impl<'b, C: ConditionalEventHandler> InputState<'b, C> {
-    /// Returns the state before the first key, in the configured edit mode; Vi begins in insert mode.
+    /// Returns the state before the first key, in the configured edit mode; Vi begins in insert
+    /// mode.
     pub fn new(config: &Config, bindings: &'b Bindings<C>) -> Self
         ensures input { input_of result ≡ first_input config.now.edit_mode }
         ensures bindings { let g = C.ConditionalEventHandler in
@@ -72,16 +73,18 @@ impl<'b, C: ConditionalEventHandler> InputState<'b, C> {
         }
     }
 
-    /// Reads the keys of one phrase, and nothing past it, and returns the command that they stand for.
+    /// Reads the keys of one phrase, and nothing past it, and returns the command that they stand
+    /// for.
     ///
     /// `single_esc_abort` is handed on to the reader for the first key, in Emacs mode alone.
     ///
     /// # Errors
-    /// `Eof` where the items ended inside a phrase or before one; then a phrase that was cut short can be read again with
-    /// more items after it. Another error is one of input or output, where the reader or the renderer has failed, or
-    /// where the helper, asked for a hint, or a handler may fail; or that memory ran out. After an error the line, its
-    /// cursor and what is remembered of the keys stay as they were, and no item past the phrase that was begun is read;
-    /// after one of input or output the changes stay, too, except that open groups of them may have ended.
+    /// `Eof` where the items ended inside a phrase or before one; then a phrase that was cut short
+    /// can be read again with more items after it. Another error is one of input or output, where
+    /// the reader or the renderer has failed, or where the helper, asked for a hint, or a handler
+    /// may fail; or that memory ran out. After an error the line, its cursor and what is remembered
+    /// of the keys stay as they were, and no item past the phrase that was begun is read; after one
+    /// of input or output the changes stay, too, except that open groups of them may have ended.
     pub fn next_cmd<R: RawReader, W: Refresher>(
         &mut self,
         rdr: &mut R,
@@ -97,7 +100,8 @@ impl<'b, C: ConditionalEventHandler> InputState<'b, C> {
         self.remember(read)
     }
 
-    /// Remembers what was read of a phrase, and returns its command. A command that becomes the last change is copied.
+    /// Remembers what was read of a phrase, and returns its command. A command that becomes the
+    /// last change is copied.
     ///
     /// # Errors
     /// That memory ran out. Then nothing is remembered.

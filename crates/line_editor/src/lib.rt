@@ -1,4 +1,5 @@
-//! The line editor: reads commands from keys, executes them on a line and keeps the screen cursor right.
+//! The line editor: reads commands from keys, executes them on a line and keeps the screen cursor
+//! right.
 #![tactic(auto)]
 
 pub mod binding;

@@ -32,18 +32,19 @@ pub enum Turned {
     Ended,
     /// The person interrupted.
     Interrupted,
-    /// The items ran out before a phrase or inside of one. The items of such a phrase are to be read again, with more after
-    /// them.
+    /// The items ran out before a phrase or inside of one. The items of such a phrase are to be
+    /// read again, with more after them.
     NeedsMore,
 }
 
-/// Reads the keys of one command, as `next_cmd` of the state does, and resets the kill ring where the command says so. Returns
-/// None where the items ran out before a phrase or inside of one: its items are to be read again, with more after them.
+/// Reads the keys of one command, as `next_cmd` of the state does, and resets the kill ring where
+/// the command says so. Returns None where the items ran out before a phrase or inside of one: its
+/// items are to be read again, with more after them.
 ///
 /// # Errors
-/// An error of input or output, where the reader or the renderer has failed, or where the helper or a handler may fail; or that
-/// memory ran out. Then the line and its cursor, what is remembered of the keys and the kill ring are as they were, and no item
-/// past the phrase that was begun is read.
+/// An error of input or output, where the reader or the renderer has failed, or where the helper or
+/// a handler may fail; or that memory ran out. Then the line and its cursor, what is remembered of
+/// the keys and the kill ring are as they were, and no item past the phrase that was begun is read.
 pub fn read_turn<
     'out,
     'prompt,
@@ -71,7 +72,8 @@ pub fn read_turn<
     )
 }
 
-// Returns the command that was read, and resets the kill ring where it says so; or None, where the items ran out.
+// Returns the command that was read, and resets the kill ring where it says so; or None, where the
+// items ran out.
 fn as_turn(read: Result<Cmd>, kill_ring: &mut KillRing) -> Result<Option<Cmd>>
     ensures read { command_read result ≡ read }
     ensures reset { kill_ring.new ≡ kills_read result kill_ring.old }
@@ -91,8 +93,8 @@ fn as_turn(read: Result<Cmd>, kill_ring: &mut KillRing) -> Result<Option<Cmd>>
     }
 }
 
-/// Executes a command that was read for a turn. Returns how the turn ended, and, where it proceeds, what the command leaves to
-/// the program.
+/// Executes a command that was read for a turn. Returns how the turn ended, and, where it proceeds,
+/// what the command leaves to the program.
 ///
 /// # Errors
 /// Those of `execute` but for `Eof` and `Interrupted`, which are ways for a turn to end.
@@ -128,15 +130,16 @@ pub fn do_turn<
 
 /// Reads one command and executes it. Returns how the turn ended.
 ///
-/// A program that gets its keys one after another draws the line once by `refresh_line`, and then calls this for as long as
-/// the reader has items. After `NeedsMore` no item is left unread: hand the reader the items of the phrase that was cut short
-/// again, with more after them.
+/// A program that gets its keys one after another draws the line once by `refresh_line`, and then
+/// calls this for as long as the reader has items. After `NeedsMore` no item is left unread: hand
+/// the reader the items of the phrase that was cut short again, with more after them.
 ///
 /// # Errors
-/// An error of input or output, where the reader or the renderer has failed, or where the helper, the history or a handler
-/// may fail; or that memory ran out. Either reading failed: the line and its cursor, what is remembered of the keys and the
-/// kill ring are as they were, and no item past the phrase that was begun is read. Or the command failed: its phrase is read
-/// and no item more, and the line and the kill ring are left as `execute` leaves them. The error does not say which.
+/// An error of input or output, where the reader or the renderer has failed, or where the helper,
+/// the history or a handler may fail; or that memory ran out. Either reading failed: the line and
+/// its cursor, what is remembered of the keys and the kill ring are as they were, and no item past
+/// the phrase that was begun is read. Or the command failed: its phrase is read and no item more,
+/// and the line and the kill ring are left as `execute` leaves them. The error does not say which.
 pub fn advance<
     'out,
     'prompt,
@@ -163,8 +166,8 @@ pub fn advance<
     Ok(turned)
 }
 
-/// Reads one command and executes it, as `advance` does. Returns how the turn ended, and, where it proceeds, what its command
-/// leaves to the program.
+/// Reads one command and executes it, as `advance` does. Returns how the turn ended, and, where it
+/// proceeds, what its command leaves to the program.
 ///
 /// # Errors
 /// Those of `advance`.
@@ -245,15 +248,16 @@ fn take_turn_from<
     }
 }
 
-/// Reads commands and executes them until the line is submitted, and leaves the line in `state`. It draws the line first,
-/// and after each command what it changed.
+/// Reads commands and executes them until the line is submitted, and leaves the line in `state`. It
+/// draws the line first, and after each command what it changed.
 ///
 /// # Errors
-/// `Eof` where the items end, or for the end of the input on an empty line; `Interrupted` for an interrupt, with the screen
-/// cursor at the end of what is shown. Another error is one of input or output, where the reader or the renderer has failed,
-/// or where the helper, the history or a handler may fail; or that memory ran out. Then either the first drawing failed, and
-/// nothing was read and the line is as it was; or turns were taken up to one that failed, and all is left as `advance` leaves
-/// it.
+/// `Eof` where the items end, or for the end of the input on an empty line; `Interrupted` for an
+/// interrupt, with the screen cursor at the end of what is shown. Another error is one of input or
+/// output, where the reader or the renderer has failed, or where the helper, the history or a
+/// handler may fail; or that memory ran out. Then either the first drawing failed, and nothing was
+/// read and the line is as it was; or turns were taken up to one that failed, and all is left as
+/// `advance` leaves it.
 pub fn run<
     'out,
     'prompt,

@@ -1,4 +1,5 @@
-//! What a host in another language holds: a session over bytes, with bindings by names, words for completion and a history as text.
+//! What a host in another language holds: a session over bytes, with bindings by names, words for
+//! completion and a history as text.
 #![tactic(auto)]
 
 pub mod bound;

@@ -8,8 +8,8 @@ use line_keys::cmd::{Anchor, Cmd};
 use line_keys::key_named;
 use std::alloc::Global;
 
-/// Returns the input event of keys by their names, with spaces between them, as in `C-x C-e`. None where
-/// there is no name, or a key is not called so.
+/// Returns the input event of keys by their names, with spaces between them, as in `C-x C-e`. None
+/// where there is no name, or a key is not called so.
 ///
 /// # Errors
 /// `Memory`.

@@ -43,7 +43,8 @@ impl Pieces {
         self.taken == self.bytes.len()
     }
 
-    /// Takes bytes from the front into `buffer`, as many as there are and it has room for. Returns how many were taken.
+    /// Takes bytes from the front into `buffer`, as many as there are and it has room for. Returns
+    /// how many were taken.
     pub fn take(&mut self, buffer: &mut [u8]) -> usize
         ensures { TakesBytes self.old self.new buffer.old buffer.new result }
     {

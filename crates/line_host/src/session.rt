@@ -23,8 +23,8 @@ use std::alloc::Global;
 use std::io::ErrorKind;
 use std::marker::Model;
 
-/// What helps a session: words are completed; there are hints from the history, and brackets are checked and lit, each where it is
-/// switched on.
+/// What helps a session: words are completed; there are hints from the history, and brackets are
+/// checked and lit, each where it is switched on.
 pub type HostHelper = Parts<Words, HintsAndBrackets, DimHints, HintsAndBrackets>;
 
 /// A session that reads lines from bytes, and leaves the bytes that are to be written to be taken.
@@ -106,12 +106,14 @@ impl Session {
         })
     }
 
-    /// Begins a line after the prompt, without styles and with them, with these texts before and after the cursor, draws it, and
-    /// reads the keys that were typed ahead. A line that goes on is dropped.
+    /// Begins a line after the prompt, without styles and with them, with these texts before and
+    /// after the cursor, draws it, and reads the keys that were typed ahead. A line that goes on is
+    /// dropped.
     ///
-    /// Returns `Done`, where the line goes on; `Suspended`; `Submitted`; `Ended`; `Interrupted`; or a fault, `NoMemory` or `Failed`: if
-    /// the line has begun by then, it goes on at the next call; if not, the line before goes on unchanged, if there was one. Returns `NotText`,
-    /// where one of these texts is not UTF-8, and nothing changes then.
+    /// Returns `Done`, where the line goes on; `Suspended`; `Submitted`; `Ended`; `Interrupted`; or
+    /// a fault, `NoMemory` or `Failed`: if the line has begun by then, it goes on at the next call;
+    /// if not, the line before goes on unchanged, if there was one. Returns `NotText`, where one of
+    /// these texts is not UTF-8, and nothing changes then.
     pub fn begin(&mut self, prompt: &[u8], styled: &[u8], left: &[u8], right: &[u8]) -> Status
         ensures { BeginsLine answers_by prompt.now styled.now left.now right.now self.old self.new
             result }
@@ -126,10 +128,12 @@ impl Session {
         self.tell(fed)
     }
 
-    /// Reads bytes of the terminal, which may be cut anywhere. Keys after the end of the line are kept for the next one.
+    /// Reads bytes of the terminal, which may be cut anywhere. Keys after the end of the line are
+    /// kept for the next one.
     ///
-    /// Returns `Done`, where the line goes on; `Suspended`; `Submitted`; `Ended`; `Interrupted`; a fault, `NoMemory` or `Failed`: the
-    /// line goes on at the next call; or `NoLine`, and nothing is read then.
+    /// Returns `Done`, where the line goes on; `Suspended`; `Submitted`; `Ended`; `Interrupted`; a
+    /// fault, `NoMemory` or `Failed`: the line goes on at the next call; or `NoLine`, and nothing
+    /// is read then.
     pub fn feed(&mut self, bytes: &[u8]) -> Status
         ensures { ReadsItems answers_by (read self.old.editor.decoder bytes.now) self.old self.new
             result }
@@ -137,15 +141,17 @@ impl Session {
         self.hear(Heard::Bytes(bytes))
     }
 
-    /// Settles what bytes have begun, as none have arrived for a moment: a lone Esc is the Esc key then, and of a pasted text what has
-    /// arrived is put in. The twentieth such call behind the last byte ends what has not ended. Returns what `feed` does.
+    /// Settles what bytes have begun, as none have arrived for a moment: a lone Esc is the Esc key
+    /// then, and of a pasted text what has arrived is put in. The twentieth such call behind the
+    /// last byte ends what has not ended. Returns what `feed` does.
     pub fn flush(&mut self) -> Status
         ensures { ReadsItems answers_by (flushed self.old.editor.decoder) self.old self.new result }
     {
         self.hear(Heard::Pause)
     }
 
-    /// Reads the end of all bytes. Returns what `feed` does, but for `Done`: a line that would go on ends, as no more can arrive.
+    /// Reads the end of all bytes. Returns what `feed` does, but for `Done`: a line that would go
+    /// on ends, as no more can arrive.
     pub fn finish(&mut self) -> Status
         ensures { Finishes answers_by (finished self.old.editor.decoder) self.old self.new result }
     {
@@ -157,7 +163,8 @@ impl Session {
 
     /// Drops the line that goes on. Keys that were typed ahead are kept for the next one.
     ///
-    /// Returns `Done`; `NoLine`, where no line goes on; or `NoMemory` or `Failed`: the line goes on then, and is drawn at the next call.
+    /// Returns `Done`; `NoLine`, where no line goes on; or `NoMemory` or `Failed`: the line goes on
+    /// then, and is drawn at the next call.
     pub fn abandon(&mut self) -> Status
         ensures { Abandons self.old self.new result }
     {
@@ -167,7 +174,8 @@ impl Session {
         self.end(Status::Done)
     }
 
-    /// Drops the line that goes on, if one does. Returns this status, or a fault: the line goes on then, and is drawn at the next call.
+    /// Drops the line that goes on, if one does. Returns this status, or a fault: the line goes on
+    /// then, and is drawn at the next call.
     fn end(&mut self, told: Status) -> Status
         ensures { Drops told self.old self.new result }
     {
@@ -189,7 +197,8 @@ impl Session {
         self.tell(fed)
     }
 
-    /// Begins a line after a prompt, which is given without styles and with them, with these texts before and after the cursor.
+    /// Begins a line after a prompt, which is given without styles and with them, with these texts
+    /// before and after the cursor.
     fn try_begin(&mut self, prompt: (&str, &str), initial: (&str, &str)) -> Result<Fed>
         ensures begins { BeginsReading answers_by (bound self.old.commands) prompt.entry.0.now
             initial.entry.0.now initial.entry.1.now self.old.editor self.new.editor result }
@@ -227,10 +236,11 @@ impl Session {
         }
     }
 
-    /// Gives the terminal another number of columns and of rows, and draws the line that goes on, if one does.
+    /// Gives the terminal another number of columns and of rows, and draws the line that goes on,
+    /// if one does.
     ///
-    /// Returns `Done`; `BadSetting`, where there are no columns, and nothing changes; or `NoMemory` or `Failed`: columns and rows are the
-    /// new ones then, and the line is drawn at the next call.
+    /// Returns `Done`; `BadSetting`, where there are no columns, and nothing changes; or `NoMemory`
+    /// or `Failed`: columns and rows are the new ones then, and the line is drawn at the next call.
     pub fn resize(&mut self, columns: Unit, rows: Unit) -> Status
         ensures { ResizesSession answers_by columns rows self.old self.new result }
     {
@@ -241,16 +251,16 @@ impl Session {
         Status::of(drawn)
     }
 
-    /// Returns whether bytes have begun something: a host then waits for more only a moment, and calls `flush` if none have arrived, as
-    /// long as this says so.
+    /// Returns whether bytes have begun something: a host then waits for more only a moment, and
+    /// calls `flush` if none have arrived, as long as this says so.
     pub fn is_waiting(&self) -> bool
         ensures { result ≡ is_waiting self.now.editor.decoder }
     {
         self.editor.is_waiting()
     }
 
-    /// Takes bytes that are to be written to the terminal into `buffer`, as many as there are and it has room for. Returns how many:
-    /// none where all were taken.
+    /// Takes bytes that are to be written to the terminal into `buffer`, as many as there are and
+    /// it has room for. Returns how many: none where all were taken.
     pub fn take_output(&mut self, buffer: &mut [u8]) -> usize
         ensures takes { TakesOutput self.old.output self.new.output buffer.old buffer.new result }
         ensures stays { self.new ≡ record self.old { output = self.new.output } }
@@ -262,10 +272,11 @@ impl Session {
         self.output.take(buffer)
     }
 
-    /// Copies the text of the line that goes on, or else of the one that was submitted last, into `buffer`. Reports its length, in bytes.
+    /// Copies the text of the line that goes on, or else of the one that was submitted last, into
+    /// `buffer`. Reports its length, in bytes.
     ///
-    /// Returns `Done`; `TooSmall`, where the buffer has no room for all of it; or `NoLine`, where no line goes on and none was
-    /// submitted. Nothing is copied then.
+    /// Returns `Done`; `TooSmall`, where the buffer has no room for all of it; or `NoLine`, where
+    /// no line goes on and none was submitted. Nothing is copied then.
     pub fn copy_line(&self, buffer: &mut [u8], told: &mut usize) -> Status
         ensures { CopiesIfAny (line_of self.now) buffer.old buffer.new told.new result }
     {
@@ -276,7 +287,8 @@ impl Session {
         }
     }
 
-    /// Returns the text of the line that goes on, or else of the one that was submitted last, if one was.
+    /// Returns the text of the line that goes on, or else of the one that was submitted last, if
+    /// one was.
     fn line(&self) -> Option<&str>
         ensures { option_map (λ text. text.now) result ≡ line_of self.now }
     {
@@ -301,7 +313,8 @@ impl Session {
 
     /// Adds a line to the history as the newest one, by its rules.
     ///
-    /// Returns `Done`; `HasLine`, where a line goes on; `NotText`, where this is not UTF-8; or `NoMemory`. Nothing has changed then.
+    /// Returns `Done`; `HasLine`, where a line goes on; `NotText`, where this is not UTF-8; or
+    /// `NoMemory`. Nothing has changed then.
     pub fn add_history(&mut self, line: &[u8]) -> Status
         ensures { AddsLine line.now self.old self.new result }
     {
@@ -315,10 +328,11 @@ impl Session {
         Status::of(added)
     }
 
-    /// Adds the lines of a text to the history: one that `save_history` made, or one of plain lines.
+    /// Adds the lines of a text to the history: one that `save_history` made, or one of plain
+    /// lines.
     ///
-    /// Returns `Done`; `HasLine`, where a line goes on, and nothing is added then; or `NotText`, where what a line says is not UTF-8,
-    /// or `NoMemory`: the lines before it are added then.
+    /// Returns `Done`; `HasLine`, where a line goes on, and nothing is added then; or `NotText`,
+    /// where what a line says is not UTF-8, or `NoMemory`: the lines before it are added then.
     pub fn load_history(&mut self, text: &[u8]) -> Status
         ensures { LoadsHistory text.now self.old self.new result }
     {
@@ -333,10 +347,11 @@ impl Session {
         }
     }
 
-    /// Makes the text of the history, to be taken by `take_saved`: a header and all lines, or with `append` only the lines that were
-    /// added since the history was last saved or loaded.
+    /// Makes the text of the history, to be taken by `take_saved`: a header and all lines, or with
+    /// `append` only the lines that were added since the history was last saved or loaded.
     ///
-    /// Returns `Done`; `HasLine`, where a line goes on; or `NoMemory`. The text from before is there then.
+    /// Returns `Done`; `HasLine`, where a line goes on; or `NoMemory`. The text from before is
+    /// there then.
     pub fn save_history(&mut self, append: bool) -> Status
         ensures { SavesHistory append self.old self.new result }
     {
@@ -353,8 +368,8 @@ impl Session {
         }
     }
 
-    /// Takes bytes of the text that `save_history` made into `buffer`, as many as there are and it has room for. Returns how many: none
-    /// where all were taken.
+    /// Takes bytes of the text that `save_history` made into `buffer`, as many as there are and it
+    /// has room for. Returns how many: none where all were taken.
     pub fn take_saved(&mut self, buffer: &mut [u8]) -> usize
         ensures takes { TakesBytes self.old.saved self.new.saved buffer.old buffer.new result }
         ensures stays { self.new ≡ record self.old { saved = self.new.saved } }
@@ -364,7 +379,8 @@ impl Session {
 
     /// Completes words by those of a text from now on, one a line.
     ///
-    /// Returns `Done`; `NotText`, where this is not UTF-8; or `NoMemory`. The words from before stay then.
+    /// Returns `Done`; `NotText`, where this is not UTF-8; or `NoMemory`. The words from before
+    /// stay then.
     pub fn set_words(&mut self, text: &[u8]) -> Status
         ensures { SetsWords text.now self.old self.new result }
     {
@@ -382,8 +398,8 @@ impl Session {
 
     /// Binds keys to a command, by their names, from the next call that reads keys on.
     ///
-    /// Returns `Done`; `NoKey`, where a key is not called so; `NoCommand`, where no command is; `NotText`, where a name is not UTF-8; or
-    /// `NoMemory`. Nothing was bound then.
+    /// Returns `Done`; `NoKey`, where a key is not called so; `NoCommand`, where no command is;
+    /// `NotText`, where a name is not UTF-8; or `NoMemory`. Nothing was bound then.
     pub fn bind(&mut self, keys: &[u8], command: &[u8]) -> Status
         ensures { BindsKeys keys.now command.now self.old self.new result }
     {

@@ -6,7 +6,8 @@ ghost use Rattle.line_config.specs.Error.{MemoryOnly};
 use line_buffer::{GraphemeClusterMode, Unit};
 use line_config::{ColorMode, CompletionType, Config, Configurer, EditMode, Result};
 
-/// The settings of a session, as a host hands them over. Of those that are yes or no, 0 says no, and any other number yes.
+/// The settings of a session, as a host hands them over. Of those that are yes or no, 0 says no,
+/// and any other number yes.
 #[repr(C)]
 #[derive(Clone, Copy, Debug)]
 pub struct Settings {

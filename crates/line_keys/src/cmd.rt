@@ -84,7 +84,8 @@ pub enum Cmd {
     Suspend,
     /// Exchanges the clusters before and under the cursor.
     TransposeChars,
-    /// Exchanges the word that ends so many words on from the cursor with the one as many words before it.
+    /// Exchanges the word that ends so many words on from the cursor with the one as many words
+    /// before it.
     TransposeWords(RepeatCount),
     /// Undoes so many changes.
     Undo(RepeatCount),
@@ -184,7 +185,8 @@ impl Cmd {
         })
     }
 
-    /// Returns whether the kill ring is to be reset before this command, so that no killed text joins the one before.
+    /// Returns whether the kill ring is to be reset before this command, so that no killed text
+    /// joins the one before.
     pub const fn should_reset_kill_ring(&self) -> bool
         ensures { result ≡ resets_kill_ring (command_of self.now) }
     {

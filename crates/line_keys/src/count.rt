@@ -16,7 +16,8 @@ use std::alloc::Global;
 pub struct Count {
     /// How often.
     pub n: RepeatCount,
-    /// Whether the direction is the command's own: the first key was no minus sign, or the number is 0.
+    /// Whether the direction is the command's own: the first key was no minus sign, or the number
+    /// is 0.
     pub positive: bool,
 }
 
@@ -39,8 +40,8 @@ impl Count {
     }
 }
 
-/// Returns whether a count begins with a key: in Emacs with a digit or a minus sign with Alt, in Vi's command mode with a
-/// plain digit from 1 on.
+/// Returns whether a count begins with a key: in Emacs with a digit or a minus sign with Alt, in
+/// Vi's command mode with a plain digit from 1 on.
 pub fn begins_count(mode: EditMode, input_mode: InputMode, key: KeyEvent) -> bool
     ensures { result ≡ begins_count mode input_mode key }
 {
@@ -53,8 +54,8 @@ pub fn begins_count(mode: EditMode, input_mode: InputMode, key: KeyEvent) -> boo
     }
 }
 
-/// Returns whether a count goes on with a key: in Emacs with digits and minus signs, plain or with Alt, in Vi with plain
-/// digits.
+/// Returns whether a count goes on with a key: in Emacs with digits and minus signs, plain or with
+/// Alt, in Vi with plain digits.
 pub fn continues_count(mode: EditMode, key: KeyEvent) -> bool
     ensures { result ≡ continues_count mode key }
 {
@@ -110,7 +111,8 @@ impl TypedCount {
         }
     }
 
-    /// Adds a key. Digits that come after a number of at least 1000, and minus signs, are passed over.
+    /// Adds a key. Digits that come after a number of at least 1000, and minus signs, are passed
+    /// over.
     pub fn push(&mut self, key: KeyEvent)
         ensures { (keys : List KeyEvent)
             → IsCountOf self.old keys → IsCountOf self.new (keys ++ key ∷ []) }

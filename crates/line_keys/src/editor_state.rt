@@ -5,8 +5,8 @@ ghost use Rattle.line_keys.specs.Draft.{Draft};
 ghost use Rattle.line_parts.specs.Asks.{Sureness};
 ghost use Rattle.line_parts.specs.Environment.{Environment};
 
-/// What contracts see of an editor, and no code reads: the line that is edited, what answers for it, what is drawn, and
-/// the counts of failures and of full redraws.
+/// What contracts see of an editor, and no code reads: the line that is edited, what answers for
+/// it, what is drawn, and the counts of failures and of full redraws.
 pub trait EditorState {
     // What distinguishes the loans of the renderer and of the helper from others.
     ghost Loan: { Type 0 };

@@ -21,7 +21,8 @@ impl KeyEvent {
     ///
     /// - U+0008 and U+007F are Backspace, U+000D is Enter, U+001B is Esc, U+009B is Esc with Shift.
     /// - U+0009 is Tab. With Shift it is BackTab, without Shift.
-    /// - Every other one up to U+001F is Ctrl with the character 64 places on: U+0001 is Ctrl with A.
+    /// - Every other one up to U+001F is Ctrl with the character 64 places on: U+0001 is Ctrl with
+    ///   A.
     /// - Every other one from U+0080 on is Null.
     pub fn new(c: char, mods: Modifiers) -> Self
         ensures { result ≡ event_of c mods }
@@ -147,8 +148,8 @@ pub enum KeyCode {
 /// bit 3 Ctrl.
 ///
 /// Its methods are those of `bitflags::Flags`. `|`, `&`, `^` and `-` are union, intersection,
-/// symmetric difference and difference. `!` gives those of the three named modifiers that are not in
-/// the set.
+/// symmetric difference and difference. `!` gives those of the three named modifiers that are not
+/// in the set.
 #[derive(Debug, Clone, Copy, PartialEq, Eq, Hash)]
 pub struct Modifiers(u8);
 

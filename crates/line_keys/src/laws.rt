@@ -32,7 +32,8 @@ pub fn normal_form_settles_after_two()
     ensures { SettlesAfterTwo }
 {}
 
-/// In Vi's command mode % stands for the same command whatever the count, and after each operator for the same motion.
+/// In Vi's command mode % stands for the same command whatever the count, and after each operator
+/// for the same motion.
 pub fn the_bracket_key_takes_no_count()
     ensures { BracketTakesNoCount }
 {}

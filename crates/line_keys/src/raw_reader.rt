@@ -10,12 +10,14 @@ use crate::cmd::Cmd;
 use crate::keys::{KeyCode, KeyEvent, Modifiers};
 use line_config::ReadlineError;
 
-/// A source of keys and pasted texts: a finite list of items, of which each call takes the next one.
+/// A source of keys and pasted texts: a finite list of items, of which each call takes the next
+/// one.
 ///
 /// # Errors
-/// A failed call takes nothing. `Eof` is returned only at the end of the list, where no call succeeds, and `Interrupted`
-/// never. Another error is one of input or output, and then the count of failures has risen; or that memory ran out.
-/// Without an error of input or output the count of failures stays.
+/// A failed call takes nothing. `Eof` is returned only at the end of the list, where no call
+/// succeeds, and `Interrupted` never. Another error is one of input or output, and then the count
+/// of failures has risen; or that memory ran out. Without an error of input or output the count of
+/// failures stays.
 pub trait RawReader {
     ghost rest: { Self → List Item };
 
@@ -28,9 +30,11 @@ pub trait RawReader {
 
     ghost own_binding: { Kept → KeyEvent → Option Command };
 
-    /// Takes the next item, which is a key, and returns it. A pasted text there is a failure, and stays.
+    /// Takes the next item, which is a key, and returns it. A pasted text there is a failure, and
+    /// stays.
     ///
-    /// `single_esc_abort` says that an escape key is not to wait for more keys: what is read is the same.
+    /// `single_esc_abort` says that an escape key is not to wait for more keys: what is read is the
+    /// same.
     fn next_key(&mut self, single_esc_abort: bool) -> Result<KeyEvent, ReadlineError>
         ensures took { IfOk result (λ k. rest self.old ≡ key k ∷ rest self.new) }
         ensures kept { OnErr result (rest self.new ≡ rest self.old) }
@@ -38,8 +42,8 @@ pub trait RawReader {
         ensures counts { CountsFailures result (failures self.old) (failures self.new) }
         ensures stays { kept self.new ≡ kept self.old };
 
-    /// Takes the next item, which is the key of a character without a modifier, and returns the character. Another item
-    /// there is a failure, and stays.
+    /// Takes the next item, which is the key of a character without a modifier, and returns the
+    /// character. Another item there is a failure, and stays.
     fn next_char(&mut self) -> Result<char, ReadlineError>
         ensures took { IfOk result (λ c.
             rest self.old ≡ key (event (KeyCode.Char c) Modifiers.NONE) ∷ rest self.new) }
@@ -48,7 +52,8 @@ pub trait RawReader {
         ensures counts { CountsFailures result (failures self.old) (failures self.new) }
         ensures stays { kept self.new ≡ kept self.old };
 
-    /// Takes the next item, which is a pasted text, and returns it. A key there is a failure, and stays.
+    /// Takes the next item, which is a pasted text, and returns it. A key there is a failure, and
+    /// stays.
     fn read_pasted_text(&mut self) -> Result<String, ReadlineError>
         ensures took { IfOk result (λ t. rest self.old ≡ paste (string_bytes t) ∷ rest self.new) }
         ensures kept { OnErr result (rest self.new ≡ rest self.old) }

@@ -11,9 +11,10 @@ use line_buffer::{Movement, RepeatCount};
 use line_config::Result;
 
 impl Cmd {
-    /// Returns the command as it is done for a key that a program bound to it. A repeatable change and a move take the new
-    /// count, if there is one and they have a count, and a replacement without a text of its own the text that was inserted
-    /// last. Each other command stays as it is, also one with a count.
+    /// Returns the command as it is done for a key that a program bound to it. A repeatable change
+    /// and a move take the new count, if there is one and they have a count, and a replacement
+    /// without a text of its own the text that was inserted last. Each other command stays as it
+    /// is, also one with a count.
     ///
     /// # Errors
     /// That memory ran out.
@@ -42,8 +43,8 @@ impl Cmd {
         })
     }
 
-    /// Returns the command as the dot does it again. It is done as for a key that a program bound to it, but a typed character
-    /// becomes the text that was inserted last, where there is one.
+    /// Returns the command as the dot does it again. It is done as for a key that a program bound
+    /// to it, but a typed character becomes the text that was inserted last, where there is one.
     ///
     /// # Errors
     /// That memory ran out.
@@ -82,8 +83,9 @@ impl Cmd {
         }
     }
 
-    /// Returns whether the command becomes Vi's last change, by the mode that its key is read in, and the last change so far. A
-    /// repeatable change does, but in insert and replace mode not a typed character after a replacement or a typed one.
+    /// Returns whether the command becomes Vi's last change, by the mode that its key is read in,
+    /// and the last change so far. A repeatable change does, but in insert and replace mode not a
+    /// typed character after a replacement or a typed one.
     pub fn becomes_change(&self, input_mode: InputMode, last: &Option<Cmd>) -> bool
         ensures { result
             ≡ becomes_change input_mode (option_map command_of last.now) (command_of self.now) }
@@ -128,8 +130,8 @@ fn recounted(movement: Movement, new: Option<RepeatCount>) -> Movement
     }
 }
 
-// Returns what is replaced by the text that was inserted last: as many clusters as it has bytes, where it was typed over the
-// line.
+// Returns what is replaced by the text that was inserted last: as many clusters as it has bytes,
+// where it was typed over the line.
 fn over_text(movement: Movement, new: Option<RepeatCount>, text: &Option<String>) -> Movement
     ensures { result ≡ replaced_again new (option_map string_bytes text.now) movement }
 {

@@ -37,14 +37,15 @@ impl Invoke for &str {
     }
 }
 
-/// The editor, as far as reading a command needs it: it draws the line, asks for hints, and groups changes.
+/// The editor, as far as reading a command needs it: it draws the line, asks for hints, and groups
+/// changes.
 ///
 /// Every call leaves the text, the cursor and the history index.
 ///
 /// # Errors
-/// An error of input or output, where the renderer failed, or where the helper or the history was asked and may fail; or
-/// that memory ran out. A call that draws then leaves the kept layout, and the hint is the one from before or the one that
-/// was to be drawn.
+/// An error of input or output, where the renderer failed, or where the helper or the history was
+/// asked and may fail; or that memory ran out. A call that draws then leaves the kept layout, and
+/// the hint is the one from before or the one that was to be drawn.
 pub trait Refresher: EditorState {
     /// Asks for the hint and draws all again.
     fn refresh_line(&mut self) -> Result<()>
@@ -81,8 +82,8 @@ pub trait Refresher: EditorState {
         ensures undrawn { Undrawn Self.EditorState self.old self.new }
         ensures memory { MemoryOnly result };
 
-    /// Returns the text that was inserted last: that of the newest insert or replacement, unless a group was begun or a text
-    /// deleted since.
+    /// Returns the text that was inserted last: that of the newest insert or replacement, unless a
+    /// group was begun or a text deleted since.
     ///
     /// # Errors
     /// That memory ran out.

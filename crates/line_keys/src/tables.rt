@@ -142,7 +142,8 @@ pub enum Motion {
     None,
 }
 
-/// Returns what a key stands for, by the edit mode and the input mode, the count that is typed, if any, and the line.
+/// Returns what a key stands for, by the edit mode and the input mode, the count that is typed, if
+/// any, and the line.
 pub fn entry_of_key<W: Refresher>(
     mode: EditMode,
     input_mode: InputMode,
@@ -183,8 +184,8 @@ fn own_entry<W: Refresher>(
     }
 }
 
-/// Returns the key of Vi's command mode that a key of another mode stands for: in insert and replace mode a character with
-/// Alt alone stands for the plain character.
+/// Returns the key of Vi's command mode that a key of another mode stands for: in insert and
+/// replace mode a character with Alt alone stands for the plain character.
 pub fn stands_for(mode: EditMode, input_mode: InputMode, key: KeyEvent) -> Option<KeyEvent>
     ensures { result ≡ stands_for mode input_mode key }
 {

@@ -129,9 +129,9 @@ fn away(opens: bool, place: usize, len: usize, distance: usize) -> usize
     }
 }
 
-/// Returns the place of the match of a bracket, in bytes. The bracket counts as standing where it was seen, whatever stands there
-/// now. Brackets of its own kind alone are counted, from its place on or back, up to the first at which as many open as close.
-/// `None` where there is no such place.
+/// Returns the place of the match of a bracket, in bytes. The bracket counts as standing where it
+/// was seen, whatever stands there now. Brackets of its own kind alone are counted, from its place
+/// on or back, up to the first at which as many open as close. `None` where there is no such place.
 pub fn find_match(line: &[u8], seen: Seen) -> Option<usize>
     requires bracket { is_bracket seen.bracket ≡ true }
     requires within { seen.place < length line.now }

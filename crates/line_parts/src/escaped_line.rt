@@ -32,7 +32,8 @@ impl Escapes {
         }
     }
 
-    /// Returns the byte that a letter after a backslash stands for: `None` where it stands for none.
+    /// Returns the byte that a letter after a backslash stands for: `None` where it stands for
+    /// none.
     fn byte_of(self, letter: u8) -> Option<u8>
         ensures { MatchOption result ((b : ℕ) → escaped_byte self b ≢ 92 ∷ letter ∷ [])
             (λ b. escaped_byte self b ≡ 92 ∷ letter ∷ []) }

@@ -27,7 +27,8 @@ pub enum CmdKind {
     MoveCursor,
     /// Something else changed.
     Other,
-    /// The line is drawn without a hint and without highlighted brackets, as before it is submitted.
+    /// The line is drawn without a hint and without highlighted brackets, as before it is
+    /// submitted.
     ForcedRefresh,
 }
 

@@ -33,7 +33,8 @@ pub struct SearchResult<'a> {
     pub entry: CowStr<'a>,
     /// The index of the line.
     pub idx: usize,
-    /// A byte offset in the line: where the term first stands for `search`, after it for `starts_with`, 0 for `get`.
+    /// A byte offset in the line: where the term first stands for `search`, after it for
+    /// `starts_with`, 0 for `get`.
     pub pos: usize,
 }
 

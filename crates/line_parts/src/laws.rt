@@ -31,8 +31,8 @@ pub fn none_is_nowhere()
     ensures { NoneIsNowhere }
 {}
 
-/// Reading a text that `save_to` wrote, or one with an appended text after it, returns the lines of both in order
-/// but the empty ones, where none of them ends in a carriage return.
+/// Reading a text that `save_to` wrote, or one with an appended text after it, returns the lines of
+/// both in order but the empty ones, where none of them ends in a carriage return.
 pub fn saved_is_read()
     ensures { SavedIsRead }
 {}
@@ -43,8 +43,8 @@ pub fn saved_is_loaded()
     ensures { SavedIsLoaded }
 {}
 
-/// Reading a text that `save_v3_to` wrote, or one with an appended text after it, returns the lines of both in
-/// order but the empty ones, whatever characters they have.
+/// Reading a text that `save_v3_to` wrote, or one with an appended text after it, returns the lines
+/// of both in order but the empty ones, whatever characters they have.
 pub fn saved_v3_is_read()
     ensures { SavedV3IsRead }
 {}
@@ -60,8 +60,8 @@ pub fn text_says_one()
     ensures { TextSaysOne }
 {}
 
-/// The brackets of a text have one validation result: that of the brackets that are left when pairs that stand
-/// next to each other are struck out.
+/// The brackets of a text have one validation result: that of the brackets that are left when pairs
+/// that stand next to each other are struck out.
 pub fn brackets_have_one_verdict()
     ensures some { StrikingOutGivesAVerdict }
     ensures one { VerdictIsOne }
@@ -72,8 +72,8 @@ pub fn brackets_match_each_other()
     ensures { MatchIsMutual }
 {}
 
-/// Escaping a text and then unescaping it restores the text, where the escape character is one of the
-/// characters that are escaped, and the text stands in no single quotes.
+/// Escaping a text and then unescaping it restores the text, where the escape character is one of
+/// the characters that are escaped, and the text stands in no single quotes.
 #[tactic(auto, using(crate::proofs::WordLemmas::text_given_back))]
 pub fn escaped_is_unescaped()
     ensures { EscapedIsUnescaped }
@@ -98,7 +98,8 @@ pub fn one_quote_is_open()
     ensures { OneQuoteIsOpen }
 {}
 
-/// Candidates can be put in order, and in one way: those that show the same text stay in the order that they had.
+/// Candidates can be put in order, and in one way: those that show the same text stay in the order
+/// that they had.
 pub fn candidates_have_one_order()
     ensures { OrderIsOne }
 {}

@@ -73,7 +73,8 @@ impl<'out, H: Helper, S: History> Parties<'out, H, S> {
         Parties { helper, ctx }
     }
 
-    /// Returns the helper, if there is one, and the position in the history, which answer as they did.
+    /// Returns the helper, if there is one, and the position in the history, which answer as they
+    /// did.
     pub fn release(self) -> (Option<&'out mut H>, Context<'out, S>)
         ensures environment { ⟦<Self as Consulted>⟧.environment self.entry ≡ environment_by
             H.hint_at H.verdict_at H.lights H.Completer result.0 (S.lines result.1.history) }
@@ -135,7 +136,8 @@ impl<'out, H: Helper, S: History> Parties<'out, H, S> {
         self.helper.is_some()
     }
 
-    /// Returns the helper's validation result for the text of `line`. Without a helper the text is valid.
+    /// Returns the helper's validation result for the text of `line`. Without a helper the text is
+    /// valid.
     ///
     /// # Errors
     /// `Io`, only where the validator is not sure, and `Memory`.
@@ -153,9 +155,9 @@ impl<'out, H: Helper, S: History> Parties<'out, H, S> {
         }
     }
 
-    /// Returns whether the helper asks for a full drawing of `line` for its colors. `kind` says why it
-    /// is asked. Without a helper the answer is false. This changes no hint, no validation result and
-    /// no later answer of this call.
+    /// Returns whether the helper asks for a full drawing of `line` for its colors. `kind` says why
+    /// it is asked. Without a helper the answer is false. This changes no hint, no validation
+    /// result and no later answer of this call.
     #[tactic(auto, unfolding(crate::specs::Helped::hint_by, crate::specs::Helped::hints_surely_by, crate::specs::Helped::is_sure_by, crate::specs::Helped::lights_by, crate::specs::Helped::verdict_by, crate::specs::Helped::completion_by, crate::specs::Helped::update_by))]
     pub fn highlight_char(&mut self, line: &LineBuffer, kind: CmdKind) -> bool
         ensures lit { result ≡ (⟦<Self as Consulted>⟧.environment self.old).lights

@@ -97,8 +97,8 @@ impl Validator for () {
     }
 }
 
-/// Validates a text by its brackets, round, square and curly: it is taken where they are balanced, incomplete where closing
-/// ones can still balance them, and else refused.
+/// Validates a text by its brackets, round, square and curly: it is taken where they are balanced,
+/// incomplete where closing ones can still balance them, and else refused.
 #[derive(Drop)]
 pub struct MatchingBracketValidator {}
 
@@ -123,9 +123,9 @@ impl Validator for MatchingBracketValidator {
 
     ghost verdict_at = { λ _ text. bracket_verdict text };
 
-    /// Returns the validation result for the brackets of the text: valid where they are balanced, incomplete
-    /// where closing brackets after it balance them, else invalid with a message. The message
-    /// names the bracket at fault, or the last bracket before it that is open.
+    /// Returns the validation result for the brackets of the text: valid where they are balanced,
+    /// incomplete where closing brackets after it balance them, else invalid with a message. The
+    /// message names the bracket at fault, or the last bracket before it that is open.
     ///
     /// # Errors
     /// `Memory`, where an allocation fails.

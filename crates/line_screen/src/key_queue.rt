@@ -25,8 +25,9 @@ enum Item {
 
 /// A reader of the keys and pasted texts that a program hands over, in that order.
 ///
-/// At the end of what is there so far a call answers `Eof`, and the program can hand over more. What was read since the
-/// mark stays in the queue, so that it can be read again; a new queue has its mark at the start.
+/// At the end of what is there so far a call answers `Eof`, and the program can hand over more.
+/// What was read since the mark stays in the queue, so that it can be read again; a new queue has
+/// its mark at the start.
 pub struct KeyQueue {
     alloc: Global,
     items: VecDeque<Item>,
@@ -64,8 +65,8 @@ impl Model for KeyQueue {
 }
 
 impl KeyQueue {
-    /// Returns an empty queue, kept in memory of `alloc`, which binds Ctrl-C to an interrupt and Ctrl-D to the end of
-    /// the input.
+    /// Returns an empty queue, kept in memory of `alloc`, which binds Ctrl-C to an interrupt and
+    /// Ctrl-D to the end of the input.
     pub fn new(alloc: Global) -> KeyQueue
         ensures { result ≡ record { read = []; rest = []; failures = 0; binds = true } }
     {
@@ -150,8 +151,8 @@ impl KeyQueue {
         self.len() == 0
     }
 
-    /// Returns how often the next item was of another kind than the one that was asked for. The count stays at its greatest
-    /// value.
+    /// Returns how often the next item was of another kind than the one that was asked for. The
+    /// count stays at its greatest value.
     pub fn failures(&self) -> u64
         ensures { result ≡ self.now.failures }
     {
@@ -166,8 +167,9 @@ impl KeyQueue {
         self.read = 0;
     }
 
-    /// Takes the next item, where it is a pasted text, and returns the text: it stands alone, as the key before it was read
-    /// as the key of something else. Returns None, and takes nothing, where the next item is a key or nothing is left.
+    /// Takes the next item, where it is a pasted text, and returns the text: it stands alone, as
+    /// the key before it was read as the key of something else. Returns None, and takes nothing,
+    /// where the next item is a key or nothing is left.
     ///
     /// # Errors
     /// `Memory`: the text is a copy. Then nothing is taken.

@@ -1,4 +1,5 @@
-//! Where a text ends on a screen, measured cluster by cluster. In printable ASCII and newlines each character is one.
+//! Where a text ends on a screen, measured cluster by cluster. In printable ASCII and newlines each
+//! character is one.
 ghost use Rattle.std.specs.Prelude.{◌≡◌, ◌≤◌, true, IfSome, take, IsCharBoundary};
 ghost use Rattle.std.specs.List.{fold, list_all};
 ghost use Rattle.line_buffer.specs.Cluster.{PartsClusters};
@@ -27,8 +28,9 @@ pub fn measured(columns: Unit, text: &str, origin: Position) -> Position
     wrapped(columns, after_text(columns, origin, text))
 }
 
-/// Returns where the line's cursor is, and where its text ends, after a prompt that ends at `origin`. With the cursor at the
-/// end the line is measured once; else what stands before a parting, at or before the cursor, is.
+/// Returns where the line's cursor is, and where its text ends, after a prompt that ends at
+/// `origin`. With the cursor at the end the line is measured once; else what stands before a
+/// parting, at or before the cursor, is.
 pub(crate) fn measured_line(
     columns: Unit,
     line: &LineBuffer,
@@ -60,7 +62,8 @@ fn after_line(columns: Unit, place: Position, line: &LineBuffer) -> Position
     after_text(columns, place, line.as_str())
 }
 
-/// Returns a place up to the cursor where the clusters of the line part, and so do those before the cursor.
+/// Returns a place up to the cursor where the clusters of the line part, and so do those before the
+/// cursor.
 fn parting_before(line: &LineBuffer) -> usize
     ensures place { IsCharBoundary line.now.text result }
     ensures within { result ≤ line.now.cursor }
@@ -74,7 +77,8 @@ fn parting_before(line: &LineBuffer) -> usize
     }
 }
 
-/// The greatest length, in bytes, of a text that is tried character by character before it is cut into parts.
+/// The greatest length, in bytes, of a text that is tried character by character before it is cut
+/// into parts.
 const SHORT: usize = 128;
 
 /// Returns the place after more text.
@@ -90,7 +94,8 @@ fn after_text(columns: Unit, place: Position, text: &str) -> Position
     }
 }
 
-/// The place after a short text in which no character joins another. `None` where one may, and for a longer text.
+/// The place after a short text in which no character joins another. `None` where one may, and for
+/// a longer text.
 fn after_short(columns: Unit, place: Position, text: &str) -> Option<Position>
     ensures { IfSome result (λ end. end
         ≡ fold (after_cluster columns) place (graphemes true text.now)) }
@@ -214,7 +219,8 @@ fn after_cluster(columns: Unit, place: Position, cluster: &str) -> Position
     advanced(columns, place, width)
 }
 
-/// The place after a cluster of this width, on the row or, where it doesn't fit there, on a new one.
+/// The place after a cluster of this width, on the row or, where it doesn't fit there, on a new
+/// one.
 fn advanced(columns: Unit, place: Position, width: usize) -> Position
     requires { width ≤ columns }
     ensures { result ≡ advanced columns width place }

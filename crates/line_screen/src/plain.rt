@@ -22,8 +22,9 @@ use std::marker::PhantomData;
 
 const ORIGIN: Position = Position { row: 0, col: 0 };
 
-/// A screen without colors, for any reader of keys. It writes nothing: it keeps what is shown, and counts its full
-/// redraws, for a program that draws by itself. The memory of its longest line and prompt is kept for the next ones.
+/// A screen without colors, for any reader of keys. It writes nothing: it keeps what is shown, and
+/// counts its full redraws, for a program that draws by itself. The memory of its longest line and
+/// prompt is kept for the next ones.
 pub struct Plain<R: RawReader> {
     alloc: Global,
     columns: Unit,
@@ -62,8 +63,8 @@ impl<R: RawReader> Drop for Plain<R> {
 }
 
 impl<R: RawReader> Plain<R> {
-    /// Returns an empty screen of so many columns and of 24 rows, with the cursor at its first place. What it shows is kept in
-    /// memory of `alloc`.
+    /// Returns an empty screen of so many columns and of 24 rows, with the cursor at its first
+    /// place. What it shows is kept in memory of `alloc`.
     pub fn new(alloc: Global, columns: Unit) -> Plain<R>
         requires { 0 < columns }
         ensures surface { ⟦<Self as ScreenState>⟧.surface result
@@ -108,15 +109,16 @@ impl<R: RawReader> Plain<R> {
         self.place
     }
 
-    /// Returns the prompt of the last full redraw, without styles. After the screen was cleared it is empty.
+    /// Returns the prompt of the last full redraw, without styles. After the screen was cleared it
+    /// is empty.
     pub fn prompt(&self) -> &str
         ensures { result.now ≡ (⟦<Self as ScreenState>⟧.screen self.now).prompt }
     {
         self.prompt.as_str()
     }
 
-    /// Returns the text after the line of the last full redraw, if there was one: a hint, or a validation message. After
-    /// the screen was cleared there is none.
+    /// Returns the text after the line of the last full redraw, if there was one: a hint, or a
+    /// validation message. After the screen was cleared there is none.
     pub fn hint(&self) -> Option<&str>
         ensures { option_map (λ s. s.now) result
             ≡ (⟦<Self as ScreenState>⟧.screen self.now).behind }
@@ -165,8 +167,8 @@ impl<R: RawReader> Plain<R> {
         }
     }
 
-    /// Returns where the text ends with `more` after it, if this is known. `from_cursor` is where `more` ends when written at
-    /// the cursor. It looks at `more` alone.
+    /// Returns where the text ends with `more` after it, if this is known. `from_cursor` is where
+    /// `more` ends when written at the cursor. It looks at `more` alone.
     fn end_with(&self, more: &str, from_cursor: Position) -> Option<Position>
         requires { from_cursor ≡ measured self.now.columns more.now self.now.place }
         ensures { IfSome result (λ e. PlainTextEndsAt self.now.columns
@@ -182,8 +184,8 @@ impl<R: RawReader> Plain<R> {
         Some(measured(self.columns, more, end))
     }
 
-    /// Returns whether the text is printable ASCII and newlines, and begins at a column of a row. Where its end is known, this
-    /// is known too.
+    /// Returns whether the text is printable ASCII and newlines, and begins at a column of a row.
+    /// Where its end is known, this is known too.
     fn is_plain(&self) -> bool
         ensures { result ≡ true → (list_all is_plain (string_bytes self.now.text) ≡ true)
             × (self.now.origin.col < self.now.columns) }
@@ -194,8 +196,8 @@ impl<R: RawReader> Plain<R> {
         self.origin.col < self.columns && is_plain_text(self.text.as_str())
     }
 
-    /// Returns where the first `kept` bytes of the text end, which ends at `end`. `None` where they end on another row, and
-    /// where the text has more than printable ASCII and newlines.
+    /// Returns where the first `kept` bytes of the text end, which ends at `end`. `None` where they
+    /// end on another row, and where the text has more than printable ASCII and newlines.
     fn end_of_first(&self, kept: usize, end: Position) -> Option<Position>
         requires { end ≡ measured self.now.columns (string_bytes self.now.text) self.now.origin }
         ensures { IfSome result (λ e. PlainTextEndsAt self.now.columns
@@ -352,7 +354,8 @@ impl<R: RawReader> Renderer for Plain<R> {
         measured(self.columns, s, orig)
     }
 
-    /// The text is shown after what is shown already, and the cursor goes to its end. Where memory is refused, nothing changes.
+    /// The text is shown after what is shown already, and the cursor goes to its end. Where memory
+    /// is refused, nothing changes.
     fn write_and_flush(&mut self, buf: &str) -> Result<()>
         ensures shown { (c : ℕ) → buf.now ≡ c ∷ [] → is_printable c ≡ true
             → HasRoom (⟦<Self as ScreenState>⟧.surface self.old)

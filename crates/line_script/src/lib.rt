@@ -1,4 +1,5 @@
-//! Scripts of keys: how one is read and run through the line editor, and what is printed of the line.
+//! Scripts of keys: how one is read and run through the line editor, and what is printed of the
+//! line.
 #![tactic(auto)]
 
 ghost use Rattle.std.specs.Prelude.{◌≡◌, ◌≤◌};
@@ -30,11 +31,12 @@ use std::io::{Read, Write};
 /// The slots of the kill ring where nobody asks for others.
 pub const KILL_RING_SIZE: usize = 60;
 
-/// Runs a script and prints what became of the line, in six lines, or the script's first bad line, in one. Why that line is bad
-/// is written to `errors`; where that fails, nothing else changes.
+/// Runs a script and prints what became of the line, in six lines, or the script's first bad line,
+/// in one. Why that line is bad is written to `errors`; where that fails, nothing else changes.
 ///
-/// Returns the status to end with: 0 where the line was submitted, 1 where the input ended, 2 where the line was
-/// interrupted, 3 after a fault of the editor, of memory or of a stream, and 4 where the script has a bad line.
+/// Returns the status to end with: 0 where the line was submitted, 1 where the input ended, 2 where
+/// the line was interrupted, 3 after a fault of the editor, of memory or of a stream, and 4 where
+/// the script has a bad line.
 pub fn play<R: Read + Drop, O: Write, E: Write>(
     alloc: Global,
     input: R,
@@ -46,7 +48,8 @@ pub fn play<R: Read + Drop, O: Write, E: Write>(
     exit_status(play_script(alloc, input, out, errors))
 }
 
-/// The same, and the answer is what was done. An error is a fault of memory, or of one of the streams.
+/// The same, and the answer is what was done. An error is a fault of memory, or of one of the
+/// streams.
 fn play_script<R: Read + Drop, O: Write, E: Write>(
     alloc: Global,
     mut input: R,
@@ -99,14 +102,15 @@ fn complain<E: Write>(script: &[u8], line: usize, errors: &mut E) -> Result<()> 
     Ok(())
 }
 
-/// Edits a line as a script says, with these bindings and a kill ring of so many slots, and prints what became of it.
+/// Edits a line as a script says, with these bindings and a kill ring of so many slots, and prints
+/// what became of it.
 ///
 /// Returns how the run ended. What the script types is read then.
 ///
 /// # Errors
 ///
-/// `Memory` where an allocation failed before the run or while it was printed, and `Io` where `out` can't be written.
-/// What was printed then is a beginning of the six lines.
+/// `Memory` where an allocation failed before the run or while it was printed, and `Io` where `out`
+/// can't be written. What was printed then is a beginning of the six lines.
 pub fn edit<O: Write>(
     alloc: Global,
     parsed: &mut Parsed,

@@ -57,7 +57,8 @@ pub enum Ending {
     BadScript,
 }
 
-/// The status that the program ends with. An error is a fault of memory, or of one of the program's own streams.
+/// The status that the program ends with. An error is a fault of memory, or of one of the program's
+/// own streams.
 pub fn exit_status(answer: Result<Ending>) -> u8
     ensures value { result ≡ status_of answer }
     ensures bound { result ≤ 4 }
@@ -105,7 +106,8 @@ impl Report<'_> {
     }
 }
 
-/// Writes the text with its backslashes and newlines escaped, and what stands between them as it is.
+/// Writes the text with its backslashes and newlines escaped, and what stands between them as it
+/// is.
 ///
 /// # Errors
 /// Those of `out`, which may then have a part of the text.

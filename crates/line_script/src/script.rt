@@ -91,8 +91,8 @@ impl Parsed {
     ///
     /// # Errors
     ///
-    /// `BadLine` where it is not UTF-8, of no known form, or a setting after a line of items, and `Fault` where an
-    /// allocation failed.
+    /// `BadLine` where it is not UTF-8, of no known form, or a setting after a line of items, and
+    /// `Fault` where an allocation failed.
     fn push_bytes(
         &mut self,
         alloc: Global,
@@ -111,8 +111,8 @@ impl Parsed {
         }
     }
 
-    /// Adds what one line stands for. Returns false, and adds nothing, where the line is of no known form, or is a
-    /// setting after a line of items, even a bad one.
+    /// Adds what one line stands for. Returns false, and adds nothing, where the line is of no
+    /// known form, or is a setting after a line of items, even a bad one.
     ///
     /// # Errors
     ///
@@ -133,7 +133,8 @@ impl Parsed {
         Ok(is_known)
     }
 
-    /// Adds the setting of this name, with the text after the name. False where there is no such setting.
+    /// Adds the setting of this name, with the text after the name. False where there is no such
+    /// setting.
     fn push_setting(
         &mut self,
         alloc: Global,
@@ -184,15 +185,16 @@ impl From<ReadlineError> for ScriptError {
 /// Reads a whole script, to the end of the input.
 ///
 /// # Errors
-/// `BadLine` for the first line that is not UTF-8, is of no known form, or is a setting after a line of items. `Fault`
-/// where the input fails, or an allocation.
+/// `BadLine` for the first line that is not UTF-8, is of no known form, or is a setting after a
+/// line of items. `Fault` where the input fails, or an allocation.
 pub fn read_script<R: Read + Drop>(alloc: Global, mut input: R) -> Result<Parsed, ScriptError> {
     let mut bytes = Vec::new(alloc);
     input.read_to_end(&mut bytes)?;
     parse_script(alloc, &bytes)
 }
 
-/// Reads a script, whose lines end in line feeds, the last one possibly in none. Empty lines add nothing.
+/// Reads a script, whose lines end in line feeds, the last one possibly in none. Empty lines add
+/// nothing.
 pub(crate) fn parse_script(alloc: Global, script: &[u8]) -> Result<Parsed, ScriptError> {
     let mut parsed = Parsed::new(alloc)?;
     parsed.push_lines(alloc, script)?;
@@ -307,7 +309,8 @@ fn push_key(name: &str, items: &mut Script) -> Result<bool, ReadlineError>
     Ok(true)
 }
 
-/// Returns the text that an escaped one stands for: `\n` is a newline and `\\` a backslash. None where an escape is bad.
+/// Returns the text that an escaped one stands for: `\n` is a newline and `\\` a backslash. None
+/// where an escape is bad.
 ///
 /// # Errors
 ///

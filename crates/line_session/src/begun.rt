@@ -66,7 +66,8 @@ fn give_back<T, U>(one: &mut T, other: &mut U)
     let _ = other;
 }
 
-/// Leaves the terminal's cursor below a line that has ended. Returns how it ended. Where the line awaits more items, all stays.
+/// Leaves the terminal's cursor below a line that has ended. Returns how it ended. Where the line
+/// awaits more items, all stays.
 fn leave<E: Modal>(alloc: Global, turned: Result<Turned>, state: &mut E) -> Result<Turned>
     ensures ended { IfOk result (λ done. turned ≡ Ok done) }
     ensures display { result ≡ Ok Turned.NeedsMore → E.display state.new ≡ E.display state.old }
@@ -83,7 +84,8 @@ fn leave<E: Modal>(alloc: Global, turned: Result<Turned>, state: &mut E) -> Resu
     Ok(done)
 }
 
-/// Takes the terminal's cursor to the first column, below what stands there of a list or of another program, if something may.
+/// Takes the terminal's cursor to the first column, below what stands there of a list or of another
+/// program, if something may.
 fn leave_others<E: Modal>(alloc: Global, mode: &Mode, state: &mut E) -> Result<()>
     ensures draft { E.draft state.new ≡ E.draft state.old }
     ensures frame { Frame E.EditorState state.old state.new }
@@ -95,8 +97,8 @@ fn leave_others<E: Modal>(alloc: Global, mode: &Mode, state: &mut E) -> Result<(
     state.move_cursor_at_leftmost(alloc)
 }
 
-/// Returns whether the line is to be drawn before the next key is read: unless more keys are awaited after its own prompt, or for a
-/// list.
+/// Returns whether the line is to be drawn before the next key is read: unless more keys are
+/// awaited after its own prompt, or for a list.
 fn is_to_be_drawn<E: Modal>(mode: &Mode, turned: &Result<Turned>, state: &E) -> bool
     ensures more { result ≡ false → turned.now ≡ Ok Turned.NeedsMore }
     ensures prompt { turned.now ≡ Ok Turned.NeedsMore → not result ≡ is_settled mode.now
@@ -195,8 +197,9 @@ fn state_of<'out, 'prompt, O: Write + Drop, H: Helper, P: Prompt, S: History>(
 }
 
 impl<H: Helper> Begun<H> {
-    /// Gives the screen of a line another number of columns and of rows, draws the line, and keeps it again. A list ends, and a
-    /// program that was suspended goes on: the line is drawn below what stands there. Where drawing fails, the line is to be drawn.
+    /// Gives the screen of a line another number of columns and of rows, draws the line, and keeps
+    /// it again. A list ends, and a program that was suspended goes on: the line is drawn below
+    /// what stands there. Where drawing fails, the line is to be drawn.
     pub(crate) fn resized<'out, 'prompt, O: Write + Drop, S: History>(
         self,
         alloc: Global,

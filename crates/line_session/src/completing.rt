@@ -22,7 +22,8 @@ pub struct Completing {
     pub start: usize,
     /// The candidates, in the helper's order.
     pub candidates: Vec<Pair>,
-    /// The index of the shown candidate; where the line from before is shown, how many candidates there are.
+    /// The index of the shown candidate; where the line from before is shown, how many candidates
+    /// there are.
     pub shown: usize,
     /// Whether the changes have grown by the shown one.
     pub grown: bool,
@@ -39,8 +40,9 @@ impl Drop for Completing {
     }
 }
 
-/// Asks the helper for candidates; where it has none, it beeps. By the settings it shows the first one, to go through them; or
-/// puts in what all of them begin with, which is all of a single one. Several beep then, and are listed at once or at another Tab.
+/// Asks the helper for candidates; where it has none, it beeps. By the settings it shows the first
+/// one, to go through them; or puts in what all of them begin with, which is all of a single one.
+/// Several beep then, and are listed at once or at another Tab.
 ///
 /// # Errors
 /// Those of the helper and of the output: `Io` and `Memory`.
@@ -106,7 +108,8 @@ fn pair<C: Candidate>(alloc: Global, candidate: &C) -> Result<Pair>
     })
 }
 
-/// Puts candidates in as far as they agree. A single one is done then; several beep, and are listed at once or at another Tab.
+/// Puts candidates in as far as they agree. A single one is done then; several beep, and are listed
+/// at once or at another Tab.
 fn complete_in_common<E: Modal>(
     start: usize,
     candidates: Vec<Pair>,
@@ -131,7 +134,8 @@ fn complete_in_common<E: Modal>(
     Ok(Mode::Offering(candidates))
 }
 
-/// Puts in what candidates begin with in common, where that is longer than what stands there, or all of the only one.
+/// Puts in what candidates begin with in common, where that is longer than what stands there, or
+/// all of the only one.
 fn agree<E: Modal>(start: usize, candidates: &[Pair], state: &mut E) -> Result<()>
     requires { IsLineShown E.EditorState state.old }
     ensures agree { OnOk result (Agree (E.environment state.old) start candidates.now
@@ -149,14 +153,16 @@ fn agree<E: Modal>(start: usize, candidates: &[Pair], state: &mut E) -> Result<(
     Ok(())
 }
 
-/// Returns whether what so many candidates begin with in common replaces what stands from `start` to the cursor.
+/// Returns whether what so many candidates begin with in common replaces what stands from `start`
+/// to the cursor.
 fn is_put_in(cursor: usize, start: usize, common: &str, count: usize) -> bool
     ensures { result ≡ (nat_lt (cursor - start) (length common.now) || (count == 1)) }
 {
     cursor.saturating_sub(start) < common.len() || count == 1
 }
 
-/// Puts in the text of an elected candidate, and draws the line. Returns whether the changes have grown by it.
+/// Puts in the text of an elected candidate, and draws the line. Returns whether the changes have
+/// grown by it.
 fn elect<E: Modal>(start: usize, elected: &str, state: &mut E) -> Result<bool>
     ensures elects { IfOk result (λ grown. Elects (E.environment state.old) start elected.now grown
         (E.draft state.old) (E.draft state.new)) }
@@ -170,7 +176,8 @@ fn elect<E: Modal>(start: usize, elected: &str, state: &mut E) -> Result<bool>
 }
 
 impl Completing {
-    /// Shows the candidate after the shown one: the line from before follows the last one, and then the first one.
+    /// Shows the candidate after the shown one: the line from before follows the last one, and then
+    /// the first one.
     ///
     /// # Errors
     /// Those of the helper and of the output: `Io` and `Memory`.
@@ -208,7 +215,8 @@ impl Completing {
         self.show(index, state)
     }
 
-    /// Shows the candidate at an index in place of the shown one; past the last one, with a beep, the line from before.
+    /// Shows the candidate at an index in place of the shown one; past the last one, with a beep,
+    /// the line from before.
     fn show<E: Modal>(self, index: usize, state: &mut E) -> Result<Mode>
         ensures goes { IfOk result (GoesOnTo (E.environment state.old) self index
             (E.draft state.old) (E.draft state.new)) }
@@ -262,7 +270,8 @@ fn take_back<E: Modal>(grown: bool, state: &mut E) -> Result<()>
     Ok(())
 }
 
-/// Shows a candidate, or, with a beep, the line as it is. Returns whether the changes have grown by it.
+/// Shows a candidate, or, with a beep, the line as it is. Returns whether the changes have grown by
+/// it.
 fn show<E: Modal>(start: usize, candidate: Option<&Pair>, state: &mut E) -> Result<bool>
     ensures shows { IfOk result (λ grown. ShowsCandidate (E.environment state.old) start
         (option_map (λ pair. pair.now) candidate.entry) grown (E.draft state.old)

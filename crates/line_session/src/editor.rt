@@ -1,4 +1,5 @@
-//! An editor that reads lines from a terminal: what is kept between two lines, and between two pieces of one.
+//! An editor that reads lines from a terminal: what is kept between two lines, and between two
+//! pieces of one.
 ghost use Rattle.std.specs.Prelude.{◌≡◌, ◌<◌, ◌↔◌, true, false, [], length, None, Some, Ok, is_some, option_map, IfSome, IfOk, OnOk, OnErr, string_bytes};
 ghost use Rattle.std.specs.Io.KnownBytes.{IsAtEnd};
 ghost use Rattle.line_config.specs.Error.{FaultsOnly, MemoryOnly, UnlessFault};
@@ -36,7 +37,8 @@ const BUFFER_SIZE: usize = 1024;
 /// How a line stands once bytes were read.
 #[derive(Debug, PartialEq, Eq, Drop)]
 pub enum Fed {
-    /// The line goes on: more bytes are to be read, or the program is to suspend itself, where `Editor::is_suspended` says so.
+    /// The line goes on: more bytes are to be read, or the program is to suspend itself, where
+    /// `Editor::is_suspended` says so.
     More,
     /// The line was submitted.
     Submitted(String),
@@ -59,8 +61,8 @@ pub enum Heard<'t> {
 
 /// An editor that reads lines from a terminal, and draws them by writing to `O`.
 ///
-/// A program with a loop of its own begins a line, feeds it the bytes that come, and flushes it when none have come for a
-/// moment, until the line is submitted or ends.
+/// A program with a loop of its own begins a line, feeds it the bytes that come, and flushes it
+/// when none have come for a moment, until the line is submitted or ends.
 pub struct Editor<O: Write + Drop, H: Helper + Drop, S: History + Drop> {
     alloc: Global,
     config: Config,
@@ -145,7 +147,8 @@ impl<O: Write + Drop, H: Helper + Drop, S: History + Drop> Model for Editor<O, H
 }
 
 impl<O: Write + Drop, H: Helper + Drop, S: History + Drop> Editor<O, H, S> {
-    /// Returns an editor that draws on a terminal of so many columns and of 24 rows by writing to `out`. No line has begun.
+    /// Returns an editor that draws on a terminal of so many columns and of 24 rows by writing to
+    /// `out`. No line has begun.
     pub fn new(alloc: Global, config: Config, out: O, columns: Unit, helper: H, history: S) -> Self
         requires { 0 < columns }
         ensures line { result.line ≡ None }
@@ -177,9 +180,10 @@ impl<O: Write + Drop, H: Helper + Drop, S: History + Drop> Editor<O, H, S> {
         }
     }
 
-    /// Returns whether the person asked to suspend the program and it has not gone on since. The next call that reads keys or resizes
-    /// goes on: it draws the line below what stands there. A call that reads keys then reads what was typed after the key that
-    /// suspends; `feed` without bytes does only that.
+    /// Returns whether the person asked to suspend the program and it has not gone on since. The
+    /// next call that reads keys or resizes goes on: it draws the line below what stands there. A
+    /// call that reads keys then reads what was typed after the key that suspends; `feed` without
+    /// bytes does only that.
     pub fn is_suspended(&self) -> bool
         ensures { result ≡ suspends self.now }
     {
@@ -200,7 +204,8 @@ impl<O: Write + Drop, H: Helper + Drop, S: History + Drop> Editor<O, H, S> {
         }
     }
 
-    /// Returns the cursor of the line that has begun, if one has: a byte offset, on a character boundary.
+    /// Returns the cursor of the line that has begun, if one has: a byte offset, on a character
+    /// boundary.
     pub fn pos(&self) -> Option<usize>
         ensures { result ≡ option_map (λ begun. begun.kept.draft.line.cursor) self.now.line }
     {
@@ -218,7 +223,8 @@ impl<O: Write + Drop, H: Helper + Drop, S: History + Drop> Editor<O, H, S> {
         &self.history
     }
 
-    /// Returns the history, so that it may be changed; None while a line goes on, which has its place in it.
+    /// Returns the history, so that it may be changed; None while a line goes on, which has its
+    /// place in it.
     pub fn history_mut(&mut self) -> Option<&mut S>
         ensures none { result ≡ None ↔ is_some self.old.line ≡ true }
         ensures lines { IfSome result (λ history. S.lines history.now ≡ self.old.lines) }
@@ -230,7 +236,8 @@ impl<O: Write + Drop, H: Helper + Drop, S: History + Drop> Editor<O, H, S> {
         }
     }
 
-    /// Adds a line to the history as the newest one, by its rules, while no line goes on. Returns whether it was added.
+    /// Adds a line to the history as the newest one, by its rules, while no line goes on. Returns
+    /// whether it was added.
     ///
     /// # Errors
     /// `Io`, where the history fails, and `Memory`. Nothing has changed then.
@@ -257,7 +264,8 @@ impl<O: Write + Drop, H: Helper + Drop, S: History + Drop> Editor<O, H, S> {
         self.kill_ring = KillRing::new(self.alloc, size);
     }
 
-    /// Returns the helper, so that it may be changed; None while a line goes on, which shows its hint and colors.
+    /// Returns the helper, so that it may be changed; None while a line goes on, which shows its
+    /// hint and colors.
     pub fn helper_mut(&mut self) -> Option<&mut H>
         ensures none { result ≡ None ↔ is_some self.old.line ≡ true }
         ensures helper { IfSome result (λ helper. helper.now ≡ self.old.helper) }
@@ -275,10 +283,11 @@ impl<O: Write + Drop, H: Helper + Drop, S: History + Drop> Editor<O, H, S> {
         &self.helper
     }
 
-    /// Returns what is written to. Where the bytes of such an output are known, those that were written end in some that show the line
-    /// that has begun on each terminal that is ready for them, with its cursor: the prompt, the line, and the hint, a message or nothing
-    /// after it, above row 65535. So it is unless the line is drawn anew at the next call, and but for a list, a program that is
-    /// suspended, and a search with keys left.
+    /// Returns what is written to. Where the bytes of such an output are known, those that were
+    /// written end in some that show the line that has begun on each terminal that is ready for
+    /// them, with its cursor: the prompt, the line, and the hint, a message or nothing after it,
+    /// above row 65535. So it is unless the line is drawn anew at the next call, and but for a
+    /// list, a program that is suspended, and a search with keys left.
     pub fn out(&self) -> &O
         ensures shown { ShowsBegun O.contents
             (answers_of H.hint_at H.verdict_at H.lights H.Completer) self.now result.now }
@@ -286,8 +295,8 @@ impl<O: Write + Drop, H: Helper + Drop, S: History + Drop> Editor<O, H, S> {
         self.screen.out()
     }
 
-    /// Writes to `out` from now on, and draws the line that has begun at the next call. Returns what was written to before, which shows
-    /// what `out` says.
+    /// Writes to `out` from now on, and draws the line that has begun at the next call. Returns
+    /// what was written to before, which shows what `out` says.
     pub fn replace_out(&mut self, out: O) -> O
         ensures stays { self.new ≡ to_be_drawn self.old }
         ensures shown { ShowsBegun O.contents
@@ -297,8 +306,9 @@ impl<O: Write + Drop, H: Helper + Drop, S: History + Drop> Editor<O, H, S> {
         self.screen.replace_out(out)
     }
 
-    /// Writes to `out` from now on, whose bytes go to the same terminal, and draws nothing for it. Returns what was written to before. It
-    /// is for an output that is emptied now and then, of whose bytes no contract speaks.
+    /// Writes to `out` from now on, whose bytes go to the same terminal, and draws nothing for it.
+    /// Returns what was written to before. It is for an output that is emptied now and then, of
+    /// whose bytes no contract speaks.
     pub fn exchange_out(&mut self, out: O) -> O
         requires { (any : O) → O.contents any ≡ None }
         ensures { self.new ≡ self.old }
@@ -306,8 +316,8 @@ impl<O: Write + Drop, H: Helper + Drop, S: History + Drop> Editor<O, H, S> {
         self.screen.exchange_out(out)
     }
 
-    /// Returns whether bytes have begun something. A program then waits for more only a moment, some 50 ms, and calls `flush` if none have
-    /// come; and so on, as long as this says so.
+    /// Returns whether bytes have begun something. A program then waits for more only a moment,
+    /// some 50 ms, and calls `flush` if none have come; and so on, as long as this says so.
     pub fn is_waiting(&self) -> bool
         ensures { result ≡ is_waiting self.now.decoder }
     {
@@ -323,12 +333,13 @@ impl<O: Write + Drop, H: Helper + Drop, S: History + Drop> Editor<O, H, S> {
         self.decoder.take_size()
     }
 
-    /// Begins a line after the prompt, with these texts before and after the cursor, draws it, and takes the turns of the keys
-    /// that were typed ahead. A line that had begun before is dropped.
+    /// Begins a line after the prompt, with these texts before and after the cursor, draws it, and
+    /// takes the turns of the keys that were typed ahead. A line that had begun before is dropped.
     ///
     /// # Errors
-    /// `Io`, where the output, the helper or the history fails, and `Memory`. If the line had begun by then, `line` returns its text,
-    /// and it goes on at the next call. If it had not, the line before goes on unchanged, if there was one.
+    /// `Io`, where the output, the helper or the history fails, and `Memory`. If the line had begun
+    /// by then, `line` returns its text, and it goes on at the next call. If it had not, the line
+    /// before goes on unchanged, if there was one.
     pub fn begin_with<P: Prompt, C: ConditionalEventHandler>(
         &mut self,
         prompt: &P,
@@ -360,11 +371,12 @@ impl<O: Write + Drop, H: Helper + Drop, S: History + Drop> Editor<O, H, S> {
         self.begin_with(prompt, ("", ""), bindings)
     }
 
-    /// Reads bytes of the terminal, and takes the turns of their keys. Keys after the end of the line are kept for the next one.
+    /// Reads bytes of the terminal, and takes the turns of their keys. Keys after the end of the
+    /// line are kept for the next one.
     ///
     /// # Errors
-    /// `Io`, where the output, the helper or the history fails, and `Memory`. The line, whose text `line` returns, goes on at the next
-    /// call.
+    /// `Io`, where the output, the helper or the history fails, and `Memory`. The line, whose text
+    /// `line` returns, goes on at the next call.
     pub fn feed<C: ConditionalEventHandler>(
         &mut self,
         bytes: &[u8],
@@ -377,8 +389,9 @@ impl<O: Write + Drop, H: Helper + Drop, S: History + Drop> Editor<O, H, S> {
         self.hear(Heard::Bytes(bytes), bindings)
     }
 
-    /// Settles what bytes have begun, as none have come for a moment: a lone Esc is the Esc key then, and of a pasted text what has come is
-    /// put in. The twentieth such call behind the last byte ends what has not ended: a pasted text, a control string, a sequence.
+    /// Settles what bytes have begun, as none have come for a moment: a lone Esc is the Esc key
+    /// then, and of a pasted text what has come is put in. The twentieth such call behind the last
+    /// byte ends what has not ended: a pasted text, a control string, a sequence.
     ///
     /// # Errors
     /// Those of `feed`.
@@ -420,8 +433,8 @@ impl<O: Write + Drop, H: Helper + Drop, S: History + Drop> Editor<O, H, S> {
         self.take_turns(bindings)
     }
 
-    /// Drops the line that goes on, if one does, and asks the terminal to mark pasted texts no more, where the settings say so. Keys
-    /// that were typed ahead are kept.
+    /// Drops the line that goes on, if one does, and asks the terminal to mark pasted texts no
+    /// more, where the settings say so. Keys that were typed ahead are kept.
     ///
     /// # Errors
     /// `Io`, where the output fails. The line goes on then, and is drawn at the next call.
@@ -436,10 +449,12 @@ impl<O: Write + Drop, H: Helper + Drop, S: History + Drop> Editor<O, H, S> {
         self.leave(Fed::Ended).and(Ok(()))
     }
 
-    /// Gives the terminal another number of columns and of rows, and draws the line that has begun, if one has.
+    /// Gives the terminal another number of columns and of rows, and draws the line that has begun,
+    /// if one has.
     ///
     /// # Errors
-    /// `Io`, where the output fails, and `Memory`. Columns and rows are the new ones then, and the line is drawn at the next call.
+    /// `Io`, where the output fails, and `Memory`. Columns and rows are the new ones then, and the
+    /// line is drawn at the next call.
     pub fn resize(&mut self, columns: Unit, rows: Unit) -> Result<()>
         requires { 0 < columns }
         ensures written { written_so_far self.new ≡ written_so_far self.old }
@@ -467,13 +482,14 @@ impl<O: Write + Drop, H: Helper + Drop, S: History + Drop> Editor<O, H, S> {
         drawn
     }
 
-    /// Reads a line after the prompt from `input`. A read of no bytes is a pause where `pauses` says so, as on a terminal that
-    /// waits only for a while, and else the end of the input.
+    /// Reads a line after the prompt from `input`. A read of no bytes is a pause where `pauses`
+    /// says so, as on a terminal that waits only for a while, and else the end of the input.
     ///
     /// # Errors
-    /// `Eof`, where the input ends, or by a command on an empty line; `Interrupted`, where the person interrupts: no line goes on
-    /// then. `Io`, where the input, the output, the helper or the history fails, and `Memory`: `line` and `pos` then return the line,
-    /// which can be handed to `begin_with`, or, if it could not begin, the one before, if there was one.
+    /// `Eof`, where the input ends, or by a command on an empty line; `Interrupted`, where the
+    /// person interrupts: no line goes on then. `Io`, where the input, the output, the helper or
+    /// the history fails, and `Memory`: `line` and `pos` then return the line, which can be handed
+    /// to `begin_with`, or, if it could not begin, the one before, if there was one.
     pub fn readline<R: Read, P: Prompt, C: ConditionalEventHandler>(
         &mut self,
         input: &mut R,
@@ -523,7 +539,8 @@ impl<O: Write + Drop, H: Helper + Drop, S: History + Drop> Editor<O, H, S> {
         Err(io::Error::from(io::ErrorKind::Other).into())
     }
 
-    /// Returns whether the line is to be read on: it goes on, and so does the input, or the program was asked to suspend itself.
+    /// Returns whether the line is to be read on: it goes on, and so does the input, or the program
+    /// was asked to suspend itself.
     fn awaits_more(&self, fed: &Fed, goes_on: bool) -> bool
         ensures yes { result ≡ true → fed.now ≡ Fed.More }
         ensures no { result ≡ false → fed.now ≡ Fed.More
@@ -538,8 +555,8 @@ impl<O: Write + Drop, H: Helper + Drop, S: History + Drop> Editor<O, H, S> {
     /// Returns what a line is answered with. No line goes on then.
     ///
     /// # Errors
-    /// `Eof`, where the line goes on or ended; `Interrupted`; and `Io` and `Memory`, where bracketed paste cannot be turned off. The
-    /// line then goes on.
+    /// `Eof`, where the line goes on or ended; `Interrupted`; and `Io` and `Memory`, where
+    /// bracketed paste cannot be turned off. The line then goes on.
     fn answered(&mut self, fed: Fed) -> Result<String>
         ensures { UnlessFault result ((result ≡ readline_answer fed)
             × (self.new ≡ record self.old { line = None })) }
@@ -556,8 +573,9 @@ impl<O: Write + Drop, H: Helper + Drop, S: History + Drop> Editor<O, H, S> {
         }
     }
 
-    /// Reads from the input once, and takes the turns of what was read. After Suspend it reads nothing, and takes the turns of what
-    /// was typed after that key. Returns how the line stands then, and whether the input goes on.
+    /// Reads from the input once, and takes the turns of what was read. After Suspend it reads
+    /// nothing, and takes the turns of what was typed after that key. Returns how the line stands
+    /// then, and whether the input goes on.
     ///
     /// # Errors
     /// `Io`, where the input, the output, the helper or the history fails, and `Memory`.
@@ -589,7 +607,8 @@ impl<O: Write + Drop, H: Helper + Drop, S: History + Drop> Editor<O, H, S> {
         }
     }
 
-    /// Begins a line after the prompt, with these texts before and after the cursor. It is to be drawn.
+    /// Begins a line after the prompt, with these texts before and after the cursor. It is to be
+    /// drawn.
     fn start<P: Prompt>(&mut self, prompt: &P, initial: (&str, &str)) -> Result<()>
         ensures starts { OnOk result
             (StartsWith (answers_of H.hint_at H.verdict_at H.lights H.Completer)
@@ -696,7 +715,8 @@ impl<O: Write + Drop, H: Helper + Drop, S: History + Drop> Editor<O, H, S> {
         self.end(turned)
     }
 
-    /// Ends the line that has begun, if its last command ended it. Where that fails, the line goes on.
+    /// Ends the line that has begun, if its last command ended it. Where that fails, the line goes
+    /// on.
     fn end(&mut self, turned: Result<Turned>) -> Result<Fed>
         requires line { is_some self.old.line ≡ true }
         requires faults { FaultsOnly turned }
@@ -714,7 +734,8 @@ impl<O: Write + Drop, H: Helper + Drop, S: History + Drop> Editor<O, H, S> {
         }
     }
 
-    /// Drops the line that has begun. Where that fails, the line goes on, and is drawn at the next call.
+    /// Drops the line that has begun. Where that fails, the line goes on, and is drawn at the next
+    /// call.
     fn leave(&mut self, fed: Fed) -> Result<Fed>
         ensures answer { IfOk result (λ answer. answer ≡ fed) }
         ensures gone { OnOk result (self.new ≡ record self.old { line = None }) }
@@ -726,7 +747,8 @@ impl<O: Write + Drop, H: Helper + Drop, S: History + Drop> Editor<O, H, S> {
         Ok(fed)
     }
 
-    /// Submits the line that has begun, and adds it to the history where the settings say so. Where that fails, the line goes on.
+    /// Submits the line that has begun, and adds it to the history where the settings say so. Where
+    /// that fails, the line goes on.
     fn submit(&mut self) -> Result<Fed>
         requires { is_some self.old.line ≡ true }
         ensures submits { IfOk result (LineEndsAs (Ok Turned.Submitted) self.old self.new) }

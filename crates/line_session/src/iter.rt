@@ -47,7 +47,8 @@ impl<
 }
 
 impl<O: Write + Drop, H: Helper + Drop, S: History + Drop> Editor<O, H, S> {
-    /// Returns the lines of an input, each of which is read, with the prompt before it, when it is asked for.
+    /// Returns the lines of an input, each of which is read, with the prompt before it, when it is
+    /// asked for.
     pub fn iter<'a, R: Read, P: Prompt, C: ConditionalEventHandler>(
         &'a mut self,
         input: &'a mut R,
@@ -79,7 +80,8 @@ impl<
 
     ghost remaining = { λ s. at_most s.turns };
 
-    /// Returns the next line, or why there is none; None where the input or the line has ended, and from then on.
+    /// Returns the next line, or why there is none; None where the input or the line has ended, and
+    /// from then on.
     fn next(&mut self) -> Option<Result<String>> {
         if self.turns == 0 {
             return None;

@@ -56,7 +56,8 @@ pub enum Reply {
 /// Lists candidates above the line; where they are more than the settings' limit, it asks first.
 ///
 /// # Errors
-/// Those of the output and of the helper's hints: `Io` and `Memory`. The line is drawn below what there is of the list then.
+/// Those of the output and of the helper's hints: `Io` and `Memory`. The line is drawn below what
+/// there is of the list then.
 pub(crate) fn list<E: Modal>(candidates: Vec<Pair>, state: &mut E, config: &Config) -> Result<Mode>
     ensures lists { IfOk result (Lists config.now (E.environment state.old) candidates
         (E.draft state.old) (E.draft state.new)) }
@@ -139,7 +140,8 @@ impl Listing {
         self.list_rows(state.rows().saturating_sub(1).max(1), state)
     }
 
-    /// Lists so many rows more, or as many as there are. Below the last row of the list the line is drawn.
+    /// Lists so many rows more, or as many as there are. Below the last row of the list the line is
+    /// drawn.
     fn list_rows<E: Modal>(self, count: usize, state: &mut E) -> Result<Mode>
         ensures lists { IfOk result (ListsRows (E.environment state.old) self count
             (E.draft state.old) (E.draft state.new)) }
@@ -179,8 +181,8 @@ impl Listing {
         })
     }
 
-    /// Returns the text of the rows from one to before another, each on a line of its own; and where these are not the last,
-    /// `--More--` below them.
+    /// Returns the text of the rows from one to before another, each on a line of its own; and
+    /// where these are not the last, `--More--` below them.
     fn text<E: Modal>(&self, alloc: Global, state: &E, from: usize, until: usize) -> Result<String>
         ensures memory { MemoryOnly result }
     {
@@ -195,7 +197,8 @@ impl Listing {
         Ok(text)
     }
 
-    /// Appends a row: the candidates that stand in it, each of them but the last filled up with blanks to the width of a column.
+    /// Appends a row: the candidates that stand in it, each of them but the last filled up with
+    /// blanks to the width of a column.
     fn push_row<E: Modal>(&self, text: &mut String, state: &E, row: usize) -> Result<()>
         ensures memory { MemoryOnly result }
     {
@@ -223,7 +226,8 @@ fn push_blanks(text: &mut String, count: usize) -> Result<()>
     Ok(())
 }
 
-/// Returns how many columns of a screen a candidate takes in a list: all of them, where it needs more than a row.
+/// Returns how many columns of a screen a candidate takes in a list: all of them, where it needs
+/// more than a row.
 fn width_of<E: Modal>(candidate: &Pair, state: &E) -> usize {
     let end = state.end_of(candidate.display.as_str());
     if end.row > 0 {
@@ -232,7 +236,8 @@ fn width_of<E: Modal>(candidate: &Pair, state: &E) -> usize {
     end.col.into()
 }
 
-/// Writes a text above the line, which is to be drawn below it. Where that fails, the cursor goes below what was written, if it can.
+/// Writes a text above the line, which is to be drawn below it. Where that fails, the cursor goes
+/// below what was written, if it can.
 fn write_above<E: Modal>(alloc: Global, text: &str, state: &mut E) -> Result<()>
     ensures draft { E.draft state.new ≡ E.draft state.old }
     ensures frame { Frame E.EditorState state.old state.new }
@@ -260,7 +265,8 @@ fn end<E: Modal>(alloc: Global, state: &mut E) -> Result<Mode>
     Ok(Mode::Editing)
 }
 
-/// Returns the reply of an item to a list that goes on with a row, or to the question whether to list.
+/// Returns the reply of an item to a list that goes on with a row, or to the question whether to
+/// list.
 fn reply_by(next: Option<usize>, item: &AsItIs) -> Reply
     ensures { result ≡ reply_by next (item_as_it_is item.now) }
 {

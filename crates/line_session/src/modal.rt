@@ -23,8 +23,8 @@ use line_term::Ansi;
 use std::alloc::Global;
 use std::io::Write;
 
-/// A line that is edited, as far as completions, lists and searches need it. A call that `State` has
-/// too does what that one does, and has its errors.
+/// A line that is edited, as far as completions, lists and searches need it. A call that `State`
+/// has too does what that one does, and has its errors.
 pub(crate) trait Modal: Refresher {
     /// The type of the helper's candidates.
     type Candidate: Candidate + Drop;
@@ -58,7 +58,8 @@ pub(crate) trait Modal: Refresher {
         ensures undrawn { Undrawn Self.EditorState self.old self.new }
         ensures memory { MemoryOnly result };
 
-    /// Puts a line of the history in the line's place. Returns whether the changes have grown by it.
+    /// Puts a line of the history in the line's place. Returns whether the changes have grown by
+    /// it.
     fn put_entry(&mut self, pos: usize, index: usize) -> Result<bool>
         ensures draft { OnOk result (Self.draft self.new
             ≡ entry_put (Self.environment self.old) pos index (Self.draft self.old)) }

@@ -52,7 +52,8 @@ impl Mode {
         }
     }
 
-    /// Returns whether something else may stand below the line: a list, or what another program has written.
+    /// Returns whether something else may stand below the line: a list, or what another program has
+    /// written.
     pub(crate) fn is_above_others(&self) -> bool {
         match self {
             Mode::Listing(_) | Mode::Suspended => true,
@@ -92,7 +93,8 @@ impl Mode {
         }
     }
 
-    /// Returns whether the line is shown after its own prompt: not in a list, in a search, or while the program is suspended.
+    /// Returns whether the line is shown after its own prompt: not in a list, in a search, or while
+    /// the program is suspended.
     pub(crate) fn shows_line(&self) -> bool
         ensures { result ≡ shows_line self.now }
     {
@@ -127,7 +129,8 @@ impl AsItIs {
     }
 }
 
-/// Returns the character that a key stands for, if it stands for one: with Ctrl it is a control character.
+/// Returns the character that a key stands for, if it stands for one: with Ctrl it is a control
+/// character.
 fn character(key: KeyEvent) -> Option<char>
     ensures { result ≡ character_of key }
 {

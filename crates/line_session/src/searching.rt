@@ -1,4 +1,5 @@
-//! Searches through the history: a term grows and shrinks, and the line of the history that contains it is shown.
+//! Searches through the history: a term grows and shrinks, and the line of the history that
+//! contains it is shown.
 ghost use Rattle.std.specs.Prelude.{◌≡◌, true, false, None, Some, if◌then◌else◌, option_and_then, string_bytes, IfOk, OnOk};
 ghost use Rattle.line_config.specs.Error.{FaultsOnly, MemoryOnly};
 ghost use Rattle.line_keys.specs.Command.{command_of};
@@ -24,7 +25,8 @@ use std::alloc::Global;
 pub struct Place {
     /// The index of the history's line.
     pub index: usize,
-    /// Where the term begins that was found in that line, a byte offset; None where none was found yet.
+    /// Where the term begins that was found in that line, a byte offset; None where none was found
+    /// yet.
     pub pos: Option<usize>,
     /// Whether the last search for the term failed: what was found before is shown then.
     pub failed: bool,
@@ -91,7 +93,8 @@ impl SearchCmd {
     }
 }
 
-/// Begins a search in a direction, at the history's newest line, and shows its prompt. In an empty history it only beeps.
+/// Begins a search in a direction, at the history's newest line, and shows its prompt. In an empty
+/// history it only beeps.
 ///
 /// # Errors
 /// Those of the helper and of the output: `Io` and `Memory`.
@@ -133,8 +136,8 @@ impl Searching {
     /// Does what a command says to the search, and draws. Returns what the next items are read as.
     ///
     /// # Errors
-    /// Those of the history, the helper and the output: `Io` and `Memory`. The line is then as it was, the one from before the
-    /// search, or the one that was found.
+    /// Those of the history, the helper and the output: `Io` and `Memory`. The line is then as it
+    /// was, the one from before the search, or the one that was found.
     pub(crate) fn take<E: Modal>(mut self, command: SearchCmd, state: &mut E) -> Result<Mode>
         ensures takes { IfOk result (Searches (E.environment state.old) (search_value self) command
             (E.draft state.old) (E.draft state.new)) }
@@ -168,7 +171,8 @@ impl Searching {
         }
     }
 
-    // The term gets a character: the search goes on from the line where it stands, that line included.
+    // The term gets a character: the search goes on from the line where it stands, that line
+    // included.
     fn extend<E: Modal>(&mut self, c: char, state: &E) -> Result<()>
         ensures extended { OnOk result (search_value self.new
             ≡ extended (E.environment state.now) c (search_value self.old)) }
@@ -181,7 +185,8 @@ impl Searching {
         Ok(())
     }
 
-    // The term loses its last character: the search stands where it stood with the shorter one. The empty term stays.
+    // The term loses its last character: the search stands where it stood with the shorter one. The
+    // empty term stays.
     fn shorten(&mut self)
         ensures { search_value self.new ≡ shortened (search_value self.old) }
     {
@@ -203,8 +208,8 @@ impl Searching {
         Ok(())
     }
 
-    // Returns where the search stands once it goes on from a line, that line included: where it finds its term, there, and else where
-    // it stood before.
+    // Returns where the search stands once it goes on from a line, that line included: where it
+    // finds its term, there, and else where it stood before.
     fn seek<E: Modal>(
         &self,
         start: Option<usize>,
@@ -233,7 +238,8 @@ impl Searching {
         })
     }
 
-    // Gives up the search: shows the line from before, with its cursor, as the line of the history that it was.
+    // Gives up the search: shows the line from before, with its cursor, as the line of the history
+    // that it was.
     fn give_up<E: Modal>(self, state: &mut E) -> Result<Mode>
         ensures gives { IfOk result (Searches (E.environment state.old) (search_value self)
             SearchCmd.GiveUp (E.draft state.old) (E.draft state.new)) }
@@ -262,7 +268,8 @@ impl Searching {
         Ok(Mode::Searching(self))
     }
 
-    // Puts the line from before in place of the one that is shown, with its cursor, as the line of the history that it was.
+    // Puts the line from before in place of the one that is shown, with its cursor, as the line of
+    // the history that it was.
     fn take_back<E: Modal>(&self, state: &mut E) -> Result<()>
         ensures draft { OnOk result (E.draft state.new
             ≡ before_search (E.environment state.old) (search_value self.now) (E.draft state.old)) }
@@ -311,8 +318,8 @@ impl Searching {
 }
 
 impl Place {
-    // Puts the line that was found in the line's place, with the cursor where the term begins. Returns whether the changes have
-    // grown by it.
+    // Puts the line that was found in the line's place, with the cursor where the term begins.
+    // Returns whether the changes have grown by it.
     fn put<E: Modal>(self, state: &mut E) -> Result<bool>
         ensures draft { OnOk result (E.draft state.new
             ≡ place_put (E.environment state.old) self (E.draft state.old)) }
@@ -328,8 +335,8 @@ impl Place {
     }
 }
 
-// Returns where a search that stands at one of so many lines goes on: backward at the line before it, if there is one; forward at the
-// line after it, where past the newest line nothing is found.
+// Returns where a search that stands at one of so many lines goes on: backward at the line before
+// it, if there is one; forward at the line after it, where past the newest line nothing is found.
 fn next_start(direction: SearchDirection, count: usize, index: usize) -> Option<usize>
     ensures { result ≡ next_start direction count index }
 {

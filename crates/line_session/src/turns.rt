@@ -37,17 +37,20 @@ use std::alloc::Global;
 use std::io::Write;
 use std::mem;
 
-/// Takes turns until the line ends, or more items are awaited: where those that are left are no phrase yet, they are left to be
-/// read again, with more after them; where each is taken by itself, as after a quoted insert and in a list, none is left. Where
-/// `draws` says so, the line is drawn first. Returns how the last turn ended, which is never `Proceeds`.
+/// Takes turns until the line ends, or more items are awaited: where those that are left are no
+/// phrase yet, they are left to be read again, with more after them; where each is taken by itself,
+/// as after a quoted insert and in a list, none is left. Where `draws` says so, the line is drawn
+/// first. Returns how the last turn ended, which is never `Proceeds`.
 ///
-/// After a quoted insert an item is put in as it is: a key as its character, if it has one. A pasted text that stands alone is put
-/// in as any pasted text is: the key before it was read for something else, such as the motion of an operator. Where a command asks
-/// to suspend the program, the items after it are left for the next call, which draws the line first.
+/// After a quoted insert an item is put in as it is: a key as its character, if it has one. A
+/// pasted text that stands alone is put in as any pasted text is: the key before it was read for
+/// something else, such as the motion of an operator. Where a command asks to suspend the program,
+/// the items after it are left for the next call, which draws the line first.
 ///
 /// # Errors
-/// Those of `take_turn`, of the helper and of drawing the line. An item that was taken is not taken again; and unless drawing the
-/// line failed at the first, commands are read next: a completion, a list, a search and a quoted insert have ended.
+/// Those of `take_turn`, of the helper and of drawing the line. An item that was taken is not taken
+/// again; and unless drawing the line failed at the first, commands are read next: a completion, a
+/// list, a search and a quoted insert have ended.
 pub(crate) fn take_turns<
     'out,
     'prompt,
@@ -94,7 +97,8 @@ pub(crate) fn take_turns<
     turned
 }
 
-/// Draws the line, where `draws` says so or a program that was suspended goes on: commands are read then.
+/// Draws the line, where `draws` says so or a program that was suspended goes on: commands are read
+/// then.
 ///
 /// # Errors
 /// Those of the helper and of the output: `Io` and `Memory`. The mode is as it was.
@@ -211,8 +215,8 @@ fn turns<
     }
 }
 
-/// Takes the next item and returns it, where it is taken by itself. Returns None, and takes nothing, where it is read as part of a
-/// command, nothing is left, or the program is suspended.
+/// Takes the next item and returns it, where it is taken by itself. Returns None, and takes
+/// nothing, where it is read as part of a command, nothing is left, or the program is suspended.
 ///
 /// # Errors
 /// `Io` and `Memory`.
@@ -297,7 +301,8 @@ fn turn<
     edit_turn(alloc, mode, state, input_state, keys, kill_ring, config)
 }
 
-/// Takes one turn outside of a search: reads a command, executes it, and answers what it left to the program.
+/// Takes one turn outside of a search: reads a command, executes it, and answers what it left to
+/// the program.
 fn edit_turn<
     'out,
     'prompt,
@@ -350,7 +355,8 @@ fn edit_turn<
     }
 }
 
-/// Takes one turn in a search: reads a command, and does what it says to the search. Another command ends it, and is executed.
+/// Takes one turn in a search: reads a command, and does what it says to the search. Another
+/// command ends it, and is executed.
 fn search_turn<
     'out,
     'prompt,
@@ -403,8 +409,8 @@ fn search_turn<
     Ok((turned, next))
 }
 
-/// Does what a command says to a search; another one ends it, and is executed. Returns how the turn ended, and what the next items
-/// are read as.
+/// Does what a command says to a search; another one ends it, and is executed. Returns how the turn
+/// ended, and what the next items are read as.
 fn do_in_search<
     'out,
     'prompt,
@@ -451,8 +457,9 @@ fn do_in_search<
     }
 }
 
-/// Answers what a command left to the program: begins a search or a completion, or goes on with one; beeps where nothing can be
-/// given up; and takes the cursor below the line where the program is asked to suspend itself. Another command ends what had begun.
+/// Answers what a command left to the program: begins a search or a completion, or goes on with
+/// one; beeps where nothing can be given up; and takes the cursor below the line where the program
+/// is asked to suspend itself. Another command ends what had begun.
 ///
 /// # Errors
 /// Those of the helper and of the output: `Io` and `Memory`.
@@ -508,7 +515,8 @@ fn next_mode<E: Modal>(
     }
 }
 
-/// Begins a completion, or goes on with one: shows its next candidate, or lists the candidates that it offered.
+/// Begins a completion, or goes on with one: shows its next candidate, or lists the candidates that
+/// it offered.
 fn complete_on<E: Modal>(mode: Mode, state: &mut E, config: &Config) -> Result<Mode>
     requires { IsLineShown E.EditorState state.old }
     ensures answers { IfOk result (AnswersCommand config.now (E.environment state.old)

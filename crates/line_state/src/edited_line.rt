@@ -19,11 +19,12 @@ use line_buffer::{Changeset, KillRing, LineBuffer, Movement, OutOfMemory, Repeat
 use std::alloc::Global;
 use std::marker::Model;
 
-/// A line and its changes, which record at all times how it came about: taken back, they restore the text it began with.
+/// A line and its changes, which record at all times how it came about: taken back, they restore
+/// the text it began with.
 ///
 /// # Errors
-/// Each call that grows the text or the changes may run out of memory. Then there are no changes to undo, and the line may
-/// be any text with its cursor on a boundary.
+/// Each call that grows the text or the changes may run out of memory. Then there are no changes to
+/// undo, and the line may be any text with its cursor on a boundary.
 pub struct EditedLine {
     line: LineBuffer,
     changes: Changeset,
@@ -87,7 +88,8 @@ impl EditedLine {
     /// Inserts `n` copies of a character at the cursor, which then stands after them.
     ///
     /// # Errors
-    /// `OutOfMemory` alone. The line may then be any text with its cursor on a boundary, and there are no changes to undo.
+    /// `OutOfMemory` alone. The line may then be any text with its cursor on a boundary, and there
+    /// are no changes to undo.
     pub fn insert(&mut self, c: char, n: RepeatCount) -> Result<(), OutOfMemory>
         ensures { EditsTo result self.old self.new (with_copies n c self.old) }
     {
@@ -95,7 +97,8 @@ impl EditedLine {
         Ok(())
     }
 
-    /// Returns the range that a kill of the movement takes, in bytes; `None` where it takes nothing.
+    /// Returns the range that a kill of the movement takes, in bytes; `None` where it takes
+    /// nothing.
     pub fn killed_range(&self, movement: &Movement) -> Option<(usize, usize)>
         ensures { IsRangeIfAny result self.now.line (killed_range self.now.line movement.now) }
     {
@@ -105,8 +108,9 @@ impl EditedLine {
     /// Kills the text of a movement, and keeps it in `kill_ring` as `LineBuffer::cut` does.
     ///
     /// # Errors
-    /// `OutOfMemory` alone. The line may then be any text with its cursor on a boundary, and there are no changes to undo.
-    /// `kill_ring` is then the one that the kill leaves, or the one from before with a kill as its last action.
+    /// `OutOfMemory` alone. The line may then be any text with its cursor on a boundary, and there
+    /// are no changes to undo. `kill_ring` is then the one that the kill leaves, or the one from
+    /// before with a kill as its last action.
     pub fn kill(&mut self, movement: &Movement, kill_ring: &mut KillRing) -> Result<(), OutOfMemory>
         ensures edit { let range = killed_range self.old.line movement.now in
             EditsTo result self.old self.new (without_range range self.old) }
@@ -133,10 +137,12 @@ impl EditedLine {
         self.line.copy(movement)
     }
 
-    /// Takes `n` steps back, one for `n` = 0, or as many as there are. Returns whether a change of the text was taken back.
+    /// Takes `n` steps back, one for `n` = 0, or as many as there are. Returns whether a change of
+    /// the text was taken back.
     ///
     /// # Errors
-    /// `OutOfMemory` alone. The line may then be any text with its cursor on a boundary, and there are no changes to undo.
+    /// `OutOfMemory` alone. The line may then be any text with its cursor on a boundary, and there
+    /// are no changes to undo.
     pub fn undo(&mut self, n: RepeatCount) -> Result<bool, OutOfMemory>
         ensures finds { FindsToEdit result self.old self.new (undone n self.old)
             (list_any is_change (newest_steps n self.old.changes.entries)) }
@@ -171,8 +177,8 @@ impl EditedLine {
         self.changes.end()
     }
 
-    /// Returns the text that was inserted last: that of the newest insert or replacement, unless a group was begun or a
-    /// text deleted since.
+    /// Returns the text that was inserted last: that of the newest insert or replacement, unless a
+    /// group was begun or a text deleted since.
     ///
     /// # Errors
     /// That memory ran out.

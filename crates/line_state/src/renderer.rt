@@ -15,8 +15,9 @@ use line_parts::Highlighter;
 
 /// Draws the prompt, the line and the cursor, and says where a text ends.
 ///
-/// Only a `refresh_line` that succeeds changes the count of full redraws, by one. A beep, a text that `write_and_flush`
-/// writes, and a synchronized update are what a renderer does beside drawing; each call says which of them it may do.
+/// Only a `refresh_line` that succeeds changes the count of full redraws, by one. A beep, a text
+/// that `write_and_flush` writes, and a synchronized update are what a renderer does beside
+/// drawing; each call says which of them it may do.
 ///
 /// # Errors
 /// An error of input or output, and then the count of failures has risen; or that memory ran out.
@@ -33,12 +34,14 @@ pub trait Renderer: ScreenState {
         ensures shown { KeepsShown (Self.screen self.old) (Self.screen self.new) }
         ensures part { DrawsPart Self.ScreenState result self.old self.new };
 
-    /// Draws the prompt, the line and the text after it in full. That text, `hint`, is a hint or a validation message.
+    /// Draws the prompt, the line and the text after it in full. That text, `hint`, is a hint or a
+    /// validation message.
     ///
-    /// These are then known to be shown, with the cursor where `new_layout` has it, if what is handed over agrees: the
-    /// prompt ends at the prompt end of `new_layout`, which is the layout of a full redraw; the cursor of `old_layout` is
-    /// the screen cursor; and a highlighter is passed only where colors are shown. `old_layout` says which rows were drawn
-    /// before, if any were.
+    /// These are then known to be shown, with the cursor where `new_layout` has it, if what is
+    /// handed over agrees: the prompt ends at the prompt end of `new_layout`, which is the layout
+    /// of a full redraw; the cursor of `old_layout` is the screen cursor; and a highlighter is
+    /// passed only where colors are shown. `old_layout` says which rows were drawn before, if any
+    /// were.
     fn refresh_line<P: Prompt, H: Highlighter>(
         &mut self,
         prompt: &P,
@@ -89,9 +92,9 @@ pub trait Renderer: ScreenState {
     fn calculate_position(&self, s: &str, orig: Position) -> Position
         ensures { result ≡ (Self.surface self.now).measure s.now orig };
 
-    /// Writes a text where the cursor stands. Where that is the end of the shown text, which is printable ASCII and
-    /// newlines with nothing after it, a column is free there, and the text is one printable ASCII character, the
-    /// character is shown and the cursor moves one column on.
+    /// Writes a text where the cursor stands. Where that is the end of the shown text, which is
+    /// printable ASCII and newlines with nothing after it, a column is free there, and the text is
+    /// one printable ASCII character, the character is shown and the cursor moves one column on.
     fn write_and_flush(&mut self, buf: &str) -> Result<()>
         ensures shown { (c : ℕ) → buf.now ≡ c ∷ [] → is_printable c ≡ true
             → HasRoom (Self.surface self.old) (Self.screen self.old)
@@ -109,12 +112,14 @@ pub trait Renderer: ScreenState {
     fn clear_screen(&mut self) -> Result<()>
         ensures part { DrawsPart Self.ScreenState result self.old self.new };
 
-    /// Clears the rows of a drawn layout. What is shown then is not specified: a full redraw is to follow.
+    /// Clears the rows of a drawn layout. What is shown then is not specified: a full redraw is to
+    /// follow.
     fn clear_rows(&mut self, layout: &Layout) -> Result<()>
         ensures part { DrawsPart Self.ScreenState result self.old self.new };
 
-    /// Clears the rest of the cursor's row. Where the shown text is printable ASCII and newlines with nothing after it,
-    /// and ends on that row, the part of it from the cursor on is taken away.
+    /// Clears the rest of the cursor's row. Where the shown text is printable ASCII and newlines
+    /// with nothing after it, and ends on that row, the part of it from the cursor on is taken
+    /// away.
     fn clear_to_eol(&mut self) -> Result<()>
         ensures position { (Self.screen self.new).position ≡ (Self.screen self.old).position }
         ensures cleared { (kept gone : List ℕ) → (Self.screen self.old).text ≡ kept ++ gone
@@ -123,7 +128,8 @@ pub trait Renderer: ScreenState {
             → OnOk result (Self.screen self.new ≡ record (Self.screen self.old) { text = kept }) }
         ensures part { DrawsPart Self.ScreenState result self.old self.new };
 
-    /// Asks the terminal for its size again. Columns and rows stay what they were: `Resizable` sets others.
+    /// Asks the terminal for its size again. Columns and rows stay what they were: `Resizable` sets
+    /// others.
     fn update_size(&mut self)
         ensures screen { Self.screen self.new ≡ Self.screen self.old }
         ensures surface { Self.surface self.new ≡ Self.surface self.old }
@@ -148,11 +154,13 @@ pub trait Renderer: ScreenState {
     fn grapheme_cluster_mode(&self) -> GraphemeClusterMode
         ensures { result ≡ (Self.surface self.now).mode };
 
-    /// Takes the cursor to the first column, below what is there. What is shown then is not specified.
+    /// Takes the cursor to the first column, below what is there. What is shown then is not
+    /// specified.
     fn move_cursor_at_leftmost(&mut self, rdr: &mut Self::Reader) -> Result<()>
         ensures part { DrawsPart Self.ScreenState result self.old self.new };
 
-    /// What is drawn from here on may be held back. What is shown stays; after an error it may no longer be known.
+    /// What is drawn from here on may be held back. What is shown stays; after an error it may no
+    /// longer be known.
     fn begin_synchronized_update(&mut self) -> Result<()>
         ensures screen { OnOk result (Self.screen self.new ≡ Self.screen self.old) }
         ensures position { (Self.screen self.new).position ≡ (Self.screen self.old).position }

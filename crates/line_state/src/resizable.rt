@@ -6,11 +6,12 @@ ghost use Rattle.line_state.specs.ScreenState.{ResizesTo};
 use crate::renderer::Renderer;
 use line_buffer::Unit;
 
-/// A renderer whose screen can be given another size. Only `State::resized` and `View::resized` ask for
-/// it: a renderer for a screen that keeps its size has no need of it.
+/// A renderer whose screen can be given another size. Only `State::resized` and `View::resized` ask
+/// for it: a renderer for a screen that keeps its size has no need of it.
 pub trait Resizable: Renderer {
-    /// Gives the screen another number of columns and of rows. Nothing is drawn, and the cursor counts as standing where it
-    /// stood. What is known of it then is not specified: a full redraw is to follow.
+    /// Gives the screen another number of columns and of rows. Nothing is drawn, and the cursor
+    /// counts as standing where it stood. What is known of it then is not specified: a full redraw
+    /// is to follow.
     fn resize(&mut self, columns: Unit, rows: Unit)
         requires { 0 < columns }
         ensures surface { ResizesTo columns rows (Self.surface self.old) (Self.surface self.new) }

@@ -134,8 +134,8 @@ impl<'out, 'prompt, W: Renderer, P: Prompt> View<'out, 'prompt, W, P> {
         View { out, prompt, drawn }
     }
 
-    /// Draws the line in full after the prompt, with `info` after it, if there is one. Pass a highlighter only where colors
-    /// are shown.
+    /// Draws the line in full after the prompt, with `info` after it, if there is one. Pass a
+    /// highlighter only where colors are shown.
     ///
     /// # Errors
     /// Those of the renderer.
@@ -160,8 +160,8 @@ impl<'out, 'prompt, W: Renderer, P: Prompt> View<'out, 'prompt, W, P> {
         )
     }
 
-    /// Draws the line in full after another prompt, with `info` after it, if there is one. Pass a highlighter only where
-    /// colors are shown.
+    /// Draws the line in full after another prompt, with `info` after it, if there is one. Pass a
+    /// highlighter only where colors are shown.
     ///
     /// # Errors
     /// Those of the renderer.
@@ -219,8 +219,8 @@ impl<'out, 'prompt, W: Renderer, P: Prompt> View<'out, 'prompt, W, P> {
         Ok(())
     }
 
-    /// Draws the kept layout again after the prompt, with `info` after the line, if there is one, and keeps it. Pass a
-    /// highlighter only where colors are shown.
+    /// Draws the kept layout again after the prompt, with `info` after the line, if there is one,
+    /// and keeps it. Pass a highlighter only where colors are shown.
     ///
     /// # Errors
     /// Those of the renderer.
@@ -264,9 +264,10 @@ impl<'out, 'prompt, W: Renderer, P: Prompt> View<'out, 'prompt, W, P> {
         self.out.calculate_position(before, self.drawn.prompt_size)
     }
 
-    /// Returns where the cursor of the line is in a full redraw after the own prompt, if the kept cursor is where that of
-    /// byte `from` is. In a line of printable ASCII and newlines it looks at no more than what stands between the two, where
-    /// that has no newline and the cursor stays on its row.
+    /// Returns where the cursor of the line is in a full redraw after the own prompt, if the kept
+    /// cursor is where that of byte `from` is. In a line of printable ASCII and newlines it looks
+    /// at no more than what stands between the two, where that has no newline and the cursor stays
+    /// on its row.
     pub fn cursor_position_from(&self, line: &LineBuffer, from: usize) -> Position
         ensures { let d = ⟦<Self as Drawn>⟧.display self.now in
             HasCursorAt d (with_cursor line.now from)
@@ -278,9 +279,10 @@ impl<'out, 'prompt, W: Renderer, P: Prompt> View<'out, 'prompt, W, P> {
         }
     }
 
-    // Returns where the cursor of the line is, on the row of the kept cursor, which is that of byte `from`. `None` where it
-    // is on another row, where more than printable ASCII stands between the two, where the line has more than that and
-    // newlines, and where the kept cursor was not drawn as a line's.
+    // Returns where the cursor of the line is, on the row of the kept cursor, which is that of byte
+    // `from`. `None` where it is on another row, where more than printable ASCII stands between the
+    // two, where the line has more than that and newlines, and where the kept cursor was not drawn
+    // as a line's.
     fn position_near(&self, line: &LineBuffer, from: usize) -> Option<Position>
         ensures { let d = ⟦<Self as Drawn>⟧.display self.now in
             IfSome result (λ position. HasCursorAt d (with_cursor line.now from)
@@ -342,7 +344,8 @@ impl<'out, 'prompt, W: Renderer, P: Prompt> View<'out, 'prompt, W, P> {
         self.drawn.layout.cursor.col < self.out.get_columns() - 1
     }
 
-    /// Moves the kept cursor to a position, and the screen cursor with it. Nothing is drawn where it is there already.
+    /// Moves the kept cursor to a position, and the screen cursor with it. Nothing is drawn where
+    /// it is there already.
     ///
     /// # Errors
     /// Those of the renderer.
@@ -381,7 +384,8 @@ impl<'out, 'prompt, W: Renderer, P: Prompt> View<'out, 'prompt, W, P> {
         self.move_cursor(self.drawn.layout.end)
     }
 
-    // Returns whether the renderer is known to stand at the end of what is shown, printable ASCII and newlines.
+    // Returns whether the renderer is known to stand at the end of what is shown, printable ASCII
+    // and newlines.
     fn stands_at_end(&self) -> bool
         ensures { result ≡ true → StandsAtEnd (W.surface self.now.out.now)
             (W.screen self.now.out.now) self.now.drawn.layout self.now.drawn.printable_at_end }
@@ -389,8 +393,9 @@ impl<'out, 'prompt, W: Renderer, P: Prompt> View<'out, 'prompt, W, P> {
         self.knows_end(0) && self.drawn.layout.cursor == self.drawn.layout.end
     }
 
-    // Returns whether the renderer is known to stand at the kept cursor, and what is shown to be printable ASCII and
-    // newlines with nothing after it, of which at least `count` characters at the end are printable.
+    // Returns whether the renderer is known to stand at the kept cursor, and what is shown to be
+    // printable ASCII and newlines with nothing after it, of which at least `count` characters at
+    // the end are printable.
     fn knows_end(&self, count: usize) -> bool
         ensures { result ≡ true → KnowsEnd (W.surface self.now.out.now) (W.screen self.now.out.now)
             self.now.drawn.layout self.now.drawn.printable_at_end count }
@@ -401,8 +406,8 @@ impl<'out, 'prompt, W: Renderer, P: Prompt> View<'out, 'prompt, W, P> {
             && count <= self.drawn.printable_at_end
     }
 
-    /// Writes one printable ASCII character where the kept cursor is, at the line's end, with a column left after it.
-    /// The kept cursor and end move one column on.
+    /// Writes one printable ASCII character where the kept cursor is, at the line's end, with a
+    /// column left after it. The kept cursor and end move one column on.
     ///
     /// # Errors
     /// Those of the renderer.
@@ -425,8 +430,8 @@ impl<'out, 'prompt, W: Renderer, P: Prompt> View<'out, 'prompt, W, P> {
         Ok(())
     }
 
-    /// Takes away the last `count` characters of what is shown, printable ASCII on the row of the kept end. The kept cursor
-    /// and end move to where they began.
+    /// Takes away the last `count` characters of what is shown, printable ASCII on the row of the
+    /// kept end. The kept cursor and end move to where they began.
     ///
     /// # Errors
     /// Those of the renderer.
@@ -449,7 +454,8 @@ impl<'out, 'prompt, W: Renderer, P: Prompt> View<'out, 'prompt, W, P> {
         self.drawn.layout.end.col
     }
 
-    // Takes away the last `count` characters of what is shown, which stand after the kept cursor. The kept end moves there.
+    // Takes away the last `count` characters of what is shown, which stand after the kept cursor.
+    // The kept end moves there.
     fn clear_behind(&mut self, count: usize) -> Result<()>
         requires fits { count ≤ (⟦<Self as Drawn>⟧.display self.old).layout.end.col }
         requires placed { let layout = (⟦<Self as Drawn>⟧.display self.old).layout in
@@ -482,8 +488,8 @@ impl<'out, 'prompt, W: Renderer, P: Prompt> View<'out, 'prompt, W, P> {
         self.out.beep()
     }
 
-    /// Clears the whole screen, and moves the kept cursor and end to the first column of the first row. What is shown
-    /// then is not specified: a full redraw is to follow.
+    /// Clears the whole screen, and moves the kept cursor and end to the first column of the first
+    /// row. What is shown then is not specified: a full redraw is to follow.
     ///
     /// # Errors
     /// Those of the renderer. Then the kept layout stays.
@@ -503,8 +509,8 @@ impl<'out, 'prompt, W: Renderer, P: Prompt> View<'out, 'prompt, W, P> {
         Ok(())
     }
 
-    /// Moves the screen cursor to the first column, below what is there. What is shown then is not specified, and the kept
-    /// layout stays.
+    /// Moves the screen cursor to the first column, below what is there. What is shown then is not
+    /// specified, and the kept layout stays.
     ///
     /// # Errors
     /// Those of the renderer.
@@ -519,8 +525,9 @@ impl<'out, 'prompt, W: Renderer, P: Prompt> View<'out, 'prompt, W, P> {
         self.out.move_cursor_at_leftmost(rdr)
     }
 
-    /// Writes a text by itself below what is shown, from the first column on. What the screen shows then is not specified,
-    /// and the kept layout stays: a full redraw is to follow, below the text.
+    /// Writes a text by itself below what is shown, from the first column on. What the screen shows
+    /// then is not specified, and the kept layout stays: a full redraw is to follow, below the
+    /// text.
     ///
     /// # Errors
     /// Those of the renderer.
@@ -549,7 +556,8 @@ impl<'out, 'prompt, W: Renderer, P: Prompt> View<'out, 'prompt, W, P> {
         self.out.colors_enabled()
     }
 
-    /// Returns whether characters are highlighted that the next drawing has to show without their colors.
+    /// Returns whether characters are highlighted that the next drawing has to show without their
+    /// colors.
     pub fn highlight_char(&self) -> bool
         ensures { result ≡ (⟦<Self as Drawn>⟧.display self.now).lit }
     {
@@ -577,7 +585,8 @@ impl<'out, 'prompt, W: Renderer, P: Prompt> View<'out, 'prompt, W, P> {
         &*self.out
     }
 
-    /// Returns the kept layout: where the prompt ends, and where the cursor and the end of what is shown are.
+    /// Returns the kept layout: where the prompt ends, and where the cursor and the end of what is
+    /// shown are.
     pub fn layout(&self) -> &Layout
         ensures { result.now ≡ (⟦<Self as Drawn>⟧.display self.now).layout }
     {
@@ -586,9 +595,9 @@ impl<'out, 'prompt, W: Renderer, P: Prompt> View<'out, 'prompt, W, P> {
 }
 
 impl<'out, 'prompt, W: Resizable, P: Prompt> View<'out, 'prompt, W, P> {
-    /// Gives the screen another number of columns and of rows, measures the prompt anew, and draws the line in full after it,
-    /// with `info` after the line, if there is one. The rows of the kept layout are cleared. Pass a highlighter only where
-    /// colors are shown.
+    /// Gives the screen another number of columns and of rows, measures the prompt anew, and draws
+    /// the line in full after it, with `info` after the line, if there is one. The rows of the kept
+    /// layout are cleared. Pass a highlighter only where colors are shown.
     ///
     /// # Errors
     /// Those of the renderer. Then the kept layout stays, which is that of the old columns.
@@ -609,7 +618,8 @@ impl<'out, 'prompt, W: Resizable, P: Prompt> View<'out, 'prompt, W, P> {
         self.refresh_line(line, info, highlighter)
     }
 
-    // Gives the screen another number of columns and of rows, and measures the prompt anew. Nothing is drawn.
+    // Gives the screen another number of columns and of rows, and measures the prompt anew. Nothing
+    // is drawn.
     fn resize(&mut self, columns: Unit, rows: Unit)
         requires { 0 < columns }
         ensures surface { let d = ⟦<Self as Drawn>⟧.display in

@@ -32,9 +32,10 @@ use std::alloc::Global;
 use std::io::Write;
 use std::mem;
 
-/// A terminal that understands the usual control sequences, drawn by writing to `O`. What is to be shown is kept as `Plain`
-/// keeps it, with its measure; each call writes what changes, in one piece, and flushes it. After a text that fills a row
-/// exactly, by a layout of its own, a new row is begun, so that the cursor does not wait at a row's end between two calls.
+/// A terminal that understands the usual control sequences, drawn by writing to `O`. What is to be
+/// shown is kept as `Plain` keeps it, with its measure; each call writes what changes, in one
+/// piece, and flushes it. After a text that fills a row exactly, by a layout of its own, a new row
+/// is begun, so that the cursor does not wait at a row's end between two calls.
 pub struct Ansi<O: Write + Drop, R: RawReader> {
     alloc: Global,
     out: O,
@@ -45,7 +46,8 @@ pub struct Ansi<O: Write + Drop, R: RawReader> {
     synchronized: bool,
     // Whether the terminal was asked to hold back what is written.
     held: bool,
-    // Where what is shown ends, by the layout of the last full redraw, and what was drawn in part since.
+    // Where what is shown ends, by the layout of the last full redraw, and what was drawn in part
+    // since.
     end: Position,
     // Whether all of this was written, and the cursor moved from where it stood.
     whole: bool,
@@ -54,7 +56,8 @@ pub struct Ansi<O: Write + Drop, R: RawReader> {
     redraws: u64,
     failures: u64,
     ghost text_is_plain: { plain ≡ list_all is_plain (string_bytes shown.text) },
-    // Where it is known, by `whole` and `end`, that the terminal shows what is kept of the screen, the bytes that were written show it.
+    // Where it is known, by `whole` and `end`, that the terminal shows what is kept of the screen,
+    // the bytes that were written show it.
     ghost told: { TellsKnown O.contents shown.columns whole end out (record {
       position = shown.place;
       prompt = string_bytes shown.prompt;
@@ -109,9 +112,10 @@ impl<O: Write + Drop, R: RawReader> Output for Ansi<O, R> {
 }
 
 impl<O: Write + Drop, R: RawReader> Ansi<O, R> {
-    /// Returns a terminal of so many columns and of 24 rows. What it shows is not known: a full redraw is to follow, which begins
-    /// at the first column of the cursor's row and clears what stands there and below.
-    /// `colors` says whether highlighters are asked, and `synchronized` whether a full redraw is shown all at once.
+    /// Returns a terminal of so many columns and of 24 rows. What it shows is not known: a full
+    /// redraw is to follow, which begins at the first column of the cursor's row and clears what
+    /// stands there and below. `colors` says whether highlighters are asked, and `synchronized`
+    /// whether a full redraw is shown all at once.
     pub fn new(alloc: Global, out: O, columns: Unit, colors: bool, synchronized: bool) -> Self
         requires { 0 < columns }
         ensures surface { ⟦<Self as ScreenState>⟧.surface result
@@ -145,8 +149,9 @@ impl<O: Write + Drop, R: RawReader> Ansi<O, R> {
         }
     }
 
-    /// Returns what is written to. Where it is known what the screen shows, and the drawing ends above row 65535, the bytes that
-    /// were written end in some that show it on each terminal that is ready for them.
+    /// Returns what is written to. Where it is known what the screen shows, and the drawing ends
+    /// above row 65535, the bytes that were written end in some that show it on each terminal that
+    /// is ready for them.
     pub fn out(&self) -> &O
         ensures written { O.contents result.now ≡ ⟦<Self as Output>⟧.written self.now }
         ensures shown { let screen = ⟦<Self as ScreenState>⟧.screen self.now in
@@ -157,7 +162,8 @@ impl<O: Write + Drop, R: RawReader> Ansi<O, R> {
         &self.out
     }
 
-    /// Writes to `out` from now on. Returns what was written to before, which shows what `out` says. A full redraw is to follow.
+    /// Writes to `out` from now on. Returns what was written to before, which shows what `out`
+    /// says. A full redraw is to follow.
     pub fn replace_out(&mut self, out: O) -> O
         ensures before { O.contents result ≡ ⟦<Self as Output>⟧.written self.old }
         ensures shown { let screen = ⟦<Self as ScreenState>⟧.screen self.old in
@@ -172,8 +178,9 @@ impl<O: Write + Drop, R: RawReader> Ansi<O, R> {
         mem::replace(&mut self.out, out)
     }
 
-    /// Writes to `out` from now on, whose bytes go to the same terminal. Returns what was written to before. It is for an output
-    /// that is emptied now and then, of whose bytes no contract speaks.
+    /// Writes to `out` from now on, whose bytes go to the same terminal. Returns what was written
+    /// to before. It is for an output that is emptied now and then, of whose bytes no contract
+    /// speaks.
     pub fn exchange_out(&mut self, out: O) -> O
         requires { (any : O) → O.contents any ≡ None }
         ensures stays { StaysWith ⟦<Self as ScreenState>⟧ ⟦<Self as Output>⟧ self.old self.new
@@ -248,8 +255,8 @@ impl<O: Write + Drop, R: RawReader> Renderer for Ansi<O, R> {
     /// Moves the cursor from `old`, where it stands, to `new`.
     ///
     /// # Errors
-    /// `Io`, where the output fails, and `Memory`. What is kept stays; after `Io` a part of the bytes may have been
-    /// written, and a full redraw is to follow.
+    /// `Io`, where the output fails, and `Memory`. What is kept stays; after `Io` a part of the
+    /// bytes may have been written, and a full redraw is to follow.
     fn move_cursor(&mut self, old: Position, new: Position) -> Result<()>
         ensures moved { OnOk result ((⟦<Self as ScreenState>⟧.screen self.new).position ≡ new) }
         ensures known { (⟦<Self as ScreenState>⟧.screen self.old).position ≡ old
@@ -275,8 +282,8 @@ impl<O: Write + Drop, R: RawReader> Renderer for Ansi<O, R> {
     /// Writes a full redraw. A highlighter is asked where colors are shown.
     ///
     /// # Errors
-    /// `Io`, where the output or the highlighter fails: what is shown is not known then. `Memory`: nothing is written then,
-    /// and what is shown stays.
+    /// `Io`, where the output or the highlighter fails: what is shown is not known then. `Memory`:
+    /// nothing is written then, and what is shown stays.
     fn refresh_line<P: Prompt, H: Highlighter>(
         &mut self,
         prompt: &P,
@@ -361,8 +368,8 @@ impl<O: Write + Drop, R: RawReader> Renderer for Ansi<O, R> {
     /// Writes a text without colors at the cursor, which goes to its end.
     ///
     /// # Errors
-    /// `Io`, where the output fails: what is shown is not known then. `Memory`: nothing is written then, and what is shown
-    /// stays.
+    /// `Io`, where the output fails: what is shown is not known then. `Memory`: nothing is written
+    /// then, and what is shown stays.
     fn write_and_flush(&mut self, buf: &str) -> Result<()>
         ensures shown { (c : ℕ) → buf.now ≡ c ∷ [] → is_printable c ≡ true
             → HasRoom (⟦<Self as ScreenState>⟧.surface self.old)
@@ -500,8 +507,8 @@ impl<O: Write + Drop, R: RawReader> Renderer for Ansi<O, R> {
         self.shown.grapheme_cluster_mode()
     }
 
-    /// Takes the cursor to the first column: of a new row, unless it stands there already. What stands there is not known
-    /// then. The reader is not asked.
+    /// Takes the cursor to the first column: of a new row, unless it stands there already. What
+    /// stands there is not known then. The reader is not asked.
     fn move_cursor_at_leftmost(&mut self, rdr: &mut R) -> Result<()>
         ensures cleared { OnOk result (⟦<Self as ScreenState>⟧.screen self.new ≡ unknown_screen) }
         ensures writes { WritesPart ⟦<Self as ScreenState>⟧ ⟦<Self as Output>⟧ result
@@ -524,7 +531,8 @@ impl<O: Write + Drop, R: RawReader> Renderer for Ansi<O, R> {
         self.shown.clear_screen()
     }
 
-    /// Asks the terminal to hold back what is written, where full redraws are to be shown all at once.
+    /// Asks the terminal to hold back what is written, where full redraws are to be shown all at
+    /// once.
     fn begin_synchronized_update(&mut self) -> Result<()>
         ensures beside { HoldsAtMost (⟦<Self as ScreenState>⟧.beside self.old)
             (⟦<Self as ScreenState>⟧.beside self.new) }

@@ -1,4 +1,5 @@
-//! How texts are drawn, so that no control character in them acts on a terminal, and their clusters are those that they are measured by.
+//! How texts are drawn, so that no control character in them acts on a terminal, and their clusters
+//! are those that they are measured by.
 ghost use Rattle.std.specs.Prelude.{◌≡◌, ◌++◌, nat_lt, IfOk, OnOk, chars, encode_utf8, string_bytes, if◌then◌else◌};
 ghost use Rattle.line_config.specs.Error.{MemoryOnly};
 ghost use Rattle.line_term.specs.Painted.{is_coloring};
@@ -190,7 +191,8 @@ pub(crate) fn is_coloring(shown: &str, text: &str) -> bool
     left.next().is_none()
 }
 
-/// Returns how many characters make a color sequence with an ESC before them: `[`, parameters and `m`. 0 where none do.
+/// Returns how many characters make a color sequence with an ESC before them: `[`, parameters and
+/// `m`. 0 where none do.
 fn color_length(behind: &str) -> usize
     ensures { result ≡ color_length (chars behind.now) }
 {

@@ -1,5 +1,5 @@
-//! Laws of the bytes that come from a terminal, and of those that are written to it. Each function's contract is a law, and its body
-//! does nothing.
+//! Laws of the bytes that come from a terminal, and of those that are written to it. Each
+//! function's contract is a law, and its body does nothing.
 ghost use Rattle.line_term.specs.DecoderLaws.{ComesBack, ComesInPieces, EscapesAreKept, FlushSettles, HeldIsTyped, PasteComesWhole, PastesGiveNoKey, PausesKeepPastes, RowsAreKeys, SequencesNeverType, SilenceSettles, TextIsTyped, TextIsTypedAfterSilence, TextsAreSilent};
 ghost use Rattle.line_term.specs.Laws.{MovesArrive, OthersStay, PartsShow, RedrawsShow, TerminalsStayReady, TextsAreShown, TextsArrive};
 
@@ -16,12 +16,14 @@ pub fn text_is_typed()
     ensures { TextIsTyped }
 {}
 
-/// ESC P and what goes on with it as a control string that a pause cuts off stand for Alt with P and the key of each character.
+/// ESC P and what goes on with it as a control string that a pause cuts off stand for Alt with P
+/// and the key of each character.
 pub fn held_is_typed()
     ensures { HeldIsTyped }
 {}
 
-/// A pasted text without Esc is handed over whole, cleaned of carriage returns and control characters.
+/// A pasted text without Esc is handed over whole, cleaned of carriage returns and control
+/// characters.
 pub fn paste_comes_whole()
     ensures { PasteComesWhole }
 {}
@@ -46,13 +48,14 @@ pub fn escapes_are_kept()
     ensures { EscapesAreKept }
 {}
 
-/// A pasted text stands for no key, and has no control characters but newlines and tabs. Its mark alone ends it, and a pause hands over
-/// what has come of it, as text.
+/// A pasted text stands for no key, and has no control characters but newlines and tabs. Its mark
+/// alone ends it, and a pause hands over what has come of it, as text.
 pub fn pastes_give_no_key()
     ensures { PastesGiveNoKey }
 {}
 
-/// A pasted text that pauses is the same text, and what is behind it the same items, unless it pauses for too long.
+/// A pasted text that pauses is the same text, and what is behind it the same items, unless it
+/// pauses for too long.
 pub fn pauses_keep_pastes()
     ensures { PausesKeepPastes }
 {}
@@ -62,8 +65,8 @@ pub fn comes_back()
     ensures { ComesBack }
 {}
 
-/// After a flush there is nothing left to wait for, unless it may last: a pasted text, a control string or a sequence of which more
-/// than its beginning was read.
+/// After a flush there is nothing left to wait for, unless it may last: a pasted text, a control
+/// string or a sequence of which more than its beginning was read.
 pub fn flush_settles()
     ensures { FlushSettles }
 {}
@@ -78,41 +81,46 @@ pub fn text_is_typed_after_silence()
     ensures { TextIsTypedAfterSilence }
 {}
 
-/// The bytes of a cursor move take a terminal's cursor from the one place to the other, and change no cell.
+/// The bytes of a cursor move take a terminal's cursor from the one place to the other, and change
+/// no cell.
 pub fn moves_arrive()
     ensures { MovesArrive }
 {}
 
-/// What is written for a text puts its clusters down, and takes a terminal's cursor where the text is measured to end. It does not
-/// wait there at a row's end.
+/// What is written for a text puts its clusters down, and takes a terminal's cursor where the text
+/// is measured to end. It does not wait there at a row's end.
 pub fn texts_arrive()
     ensures { TextsArrive }
 {}
 
-/// A bell and what is asked of a terminal change nothing that it shows, and what clears a part of it leaves its cursor.
+/// A bell and what is asked of a terminal change nothing that it shows, and what clears a part of
+/// it leaves its cursor.
 pub fn others_stay()
     ensures { OthersStay }
 {}
 
-/// After a full redraw, of which a highlighter changes colors alone, a terminal shows prompt, line and the text after it, nothing
-/// else from the prompt's row on, and its cursor is in its place. The rows begin where those of the drawing before did, and where there
-/// was none in the cursor's row.
+/// After a full redraw, of which a highlighter changes colors alone, a terminal shows prompt, line
+/// and the text after it, nothing else from the prompt's row on, and its cursor is in its place.
+/// The rows begin where those of the drawing before did, and where there was none in the cursor's
+/// row.
 pub fn redraws_show<P: Prompt, H: Highlighter>()
     ensures { RedrawsShow P.Prompt H.Highlighter }
 {}
 
-/// All that a call writes which does not fail leaves a terminal ready for the next one, where it was ready before.
+/// All that a call writes which does not fail leaves a terminal ready for the next one, where it
+/// was ready before.
 pub fn terminals_stay_ready<P: Prompt, H: Highlighter>()
     ensures { TerminalsStayReady P.Prompt H.Highlighter }
 {}
 
-/// A text that is put down shows each cluster that has columns where the clusters before it are measured to end, and leaves the
-/// cells before its start and from its end on as they were.
+/// A text that is put down shows each cluster that has columns where the clusters before it are
+/// measured to end, and leaves the cells before its start and from its end on as they were.
 pub fn texts_are_shown()
     ensures { TextsAreShown }
 {}
 
-/// So it is after a move of the cursor, a character that is written at the line's end, and a clearing of the rest of its row.
+/// So it is after a move of the cursor, a character that is written at the line's end, and a
+/// clearing of the rest of its row.
 pub fn parts_show()
     ensures { PartsShow }
 {}

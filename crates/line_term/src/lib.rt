@@ -1,4 +1,5 @@
-//! What stands between the line editor and a terminal: its bytes as keys and pasted texts, and drawings as bytes.
+//! What stands between the line editor and a terminal: its bytes as keys and pasted texts, and
+//! drawings as bytes.
 #![tactic(auto)]
 
 pub mod ansi;

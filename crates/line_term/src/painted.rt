@@ -15,7 +15,8 @@ use std::alloc::Global;
 /// The first column of the first row.
 pub(crate) const ORIGIN: Position = Position { row: 0, col: 0 };
 
-/// Appends a prompt: the raw one, or how a highlighter shows the one with styles. `default` says whether it is the line's own.
+/// Appends a prompt: the raw one, or how a highlighter shows the one with styles. `default` says
+/// whether it is the line's own.
 pub(crate) fn push_prompt<P: Prompt, H: Highlighter>(
     bytes: &mut String,
     alloc: Global,
@@ -98,7 +99,8 @@ fn push_text<H: Highlighter>(
     }
 }
 
-/// Appends a text that is shown as another. Where that does more than color it, or nothing, the text is drawn without colors.
+/// Appends a text that is shown as another. Where that does more than color it, or nothing, the
+/// text is drawn without colors.
 fn push_shown(bytes: &mut String, text: &str, shown: &str) -> Result<()>
     ensures appends { OnOk result
         (string_bytes bytes.new ≡ string_bytes bytes.old ++ shown_as text.now shown.now) }
@@ -118,7 +120,8 @@ pub(crate) fn asked<'h, H: Highlighter>(colors: bool, highlighter: Option<&'h H>
     if colors { highlighter } else { None }
 }
 
-/// Appends what clears the rows of a layout that was drawn; where none was, those from the cursor's on.
+/// Appends what clears the rows of a layout that was drawn; where none was, those from the cursor's
+/// on.
 pub(crate) fn push_clear(bytes: &mut String, drawn: Option<&Layout>) -> Result<()>
     ensures appends { OnOk result (string_bytes bytes.new
         ≡ string_bytes bytes.old ++ clear_drawn (option_map (λ l. l.now) drawn.entry)) }

@@ -18,7 +18,8 @@ use std::alloc::Global;
 /// Appends the bytes of a full redraw, which is shown all at once where this is wanted.
 ///
 /// # Errors
-/// `Io`, where the highlighter fails, and `Memory`. A beginning of the bytes may have been appended.
+/// `Io`, where the highlighter fails, and `Memory`. A beginning of the bytes may have been
+/// appended.
 pub(crate) fn push_redraw<P: Prompt, H: Highlighter, R: RawReader>(
     bytes: &mut String,
     alloc: Global,

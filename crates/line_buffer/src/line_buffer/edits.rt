@@ -55,7 +55,8 @@ impl LineBuffer {
         Ok(at_end)
     }
 
-    /// Inserts the character at the cursor, which then stands after it, and returns whether it was at the text's end.
+    /// Inserts the character at the cursor, which then stands after it, and returns whether it was
+    /// at the text's end.
     fn insert_char(&mut self, c: char) -> Result<bool, OutOfMemory>
         ensures answer { IfOk result (λ at_end. at_end ≡ is_at_end self.old) }
         ensures line { OnOk result (self.new ≡ inserted_at_cursor self.old (encode_utf8 c)) }
@@ -71,7 +72,8 @@ impl LineBuffer {
         self.insert_text(c.encode_utf8(&mut bytes))
     }
 
-    /// Appends the character to the text, at whose end the cursor is. The cursor then stands after it.
+    /// Appends the character to the text, at whose end the cursor is. The cursor then stands after
+    /// it.
     fn push_char(&mut self, c: char) -> Result<(), OutOfMemory>
         requires { self.old.cursor ≡ length self.old.text }
         ensures line { OnOk result (self.new ≡ inserted_at_cursor self.old (encode_utf8 c)) }
@@ -226,7 +228,8 @@ impl LineBuffer {
         changes.settled(recorded)
     }
 
-    /// Puts a text in place of a range of bytes, and the cursor after it. The range begins and ends on boundaries.
+    /// Puts a text in place of a range of bytes, and the cursor after it. The range begins and ends
+    /// on boundaries.
     ///
     /// # Errors
     ///
@@ -296,7 +299,8 @@ impl LineBuffer {
         Ok(at_end)
     }
 
-    /// Inserts the text at the cursor, which then stands after it, and returns whether it was at the text's end.
+    /// Inserts the text at the cursor, which then stands after it, and returns whether it was at
+    /// the text's end.
     pub(super) fn insert_text(&mut self, text: &str) -> Result<bool, OutOfMemory>
         ensures answer { IfOk result (λ at_end. at_end ≡ is_at_end self.old) }
         ensures line { OnOk result (self.new ≡ inserted_at_cursor self.old text.now) }

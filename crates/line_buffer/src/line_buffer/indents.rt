@@ -117,7 +117,8 @@ impl LineBuffer {
         }
     }
 
-    /// Indents or dedents the line that begins at `start`, records it, and returns where it ends then.
+    /// Indents or dedents the line that begins at `start`, records it, and returns where it ends
+    /// then.
     fn shift_line(
         &mut self,
         start: usize,
@@ -137,7 +138,8 @@ impl LineBuffer {
         }
     }
 
-    /// Puts spaces before the line that begins at `start`, records it, and returns where it ends then.
+    /// Puts spaces before the line that begins at `start`, records it, and returns where it ends
+    /// then.
     fn indent_line(
         &mut self,
         start: usize,

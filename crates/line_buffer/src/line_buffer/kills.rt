@@ -19,15 +19,15 @@ use crate::undo::Changeset;
 impl LineBuffer {
     /// Takes the range of the movement out of the line, and the cursor to where it began. Where the
     /// range of a line's end or of a whole line is empty, the cluster after the cursor is removed,
-    /// and where that of a line's beginning is, the one before. Returns the place in bytes, the text,
-    /// and on which side of the cursor the movement led; `None` where nothing is removed. All but
-    /// single clusters are kept in the kill ring.
+    /// and where that of a line's beginning is, the one before. Returns the place in bytes, the
+    /// text, and on which side of the cursor the movement led; `None` where nothing is removed. All
+    /// but single clusters are kept in the kill ring.
     ///
     /// # Errors
     ///
     /// `OutOfMemory` where an allocation fails; then the list of changes is empty with no open
-    /// group, the line is text with its cursor on a boundary, and the kill ring is as before but for
-    /// its last action, or as the kill leaves it.
+    /// group, the line is text with its cursor on a boundary, and the kill ring is as before but
+    /// for its last action, or as the kill leaves it.
     pub fn kill(
         &mut self,
         mvt: &Movement,
@@ -71,8 +71,8 @@ impl LineBuffer {
     /// # Errors
     ///
     /// `OutOfMemory` where an allocation fails; then the list of changes is empty with no open
-    /// group, the line is text with its cursor on a boundary, and the kill ring is as before but for
-    /// its last action, or as the kill leaves it.
+    /// group, the line is text with its cursor on a boundary, and the kill ring is as before but
+    /// for its last action, or as the kill leaves it.
     pub fn cut(
         &mut self,
         mvt: &Movement,
@@ -146,8 +146,8 @@ impl LineBuffer {
         changes.settled(outcome)
     }
 
-    /// Takes clusters away as `delete` does, and copies no text for the caller. Returns whether there
-    /// were any.
+    /// Takes clusters away as `delete` does, and copies no text for the caller. Returns whether
+    /// there were any.
     ///
     /// # Errors
     ///
@@ -285,7 +285,8 @@ impl LineBuffer {
         }
     }
 
-    /// Returns the range that a kill by the movement takes, in bytes; `None` where it takes nothing.
+    /// Returns the range that a kill by the movement takes, in bytes; `None` where it takes
+    /// nothing.
     pub fn killed_range(&self, mvt: &Movement) -> Option<(usize, usize)>
         ensures cursor { IsCharBoundary self.now.text self.now.cursor }
         ensures range { IsRangeIfAny result self.now (killed_range self.now mvt.now) }

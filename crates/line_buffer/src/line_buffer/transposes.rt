@@ -121,7 +121,8 @@ impl LineBuffer {
         end
     }
 
-    /// Returns the start of the `n`-th word back from a place, or that place. The cursor moves there.
+    /// Returns the start of the `n`-th word back from a place, or that place. The cursor moves
+    /// there.
     fn word_start_from(&mut self, place: usize, n: RepeatCount) -> usize
         requires { IsCharBoundary self.old.text place }
         ensures start { IsOffset result self.old.text (word_start_from self.old place n) }

@@ -11,7 +11,8 @@ use line_keys::keys::KeyEvent;
 use std::alloc::Global;
 use std::marker::Model;
 
-// A node of a tree: the value of the sequence that ends here, if it has one, and the number of the child that each key leads to.
+// A node of a tree: the value of the sequence that ends here, if it has one, and the number of the
+// child that each key leads to.
 #[derive(Drop)]
 struct Node<V> {
     value: Option<V>,
@@ -32,8 +33,9 @@ impl<V> Node<V> {
     }
 }
 
-// A map from key sequences to values. Sequences that begin with the same keys share the nodes of those keys. Nodes name each
-// other by number, and number 0 is the root, where the empty sequence ends.
+// A map from key sequences to values. Sequences that begin with the same keys share the nodes of
+// those keys. Nodes name each other by number, and number 0 is the root, where the empty sequence
+// ends.
 #[derive(Drop)]
 pub(crate) struct KeyTree<V> {
     alloc: Global,
@@ -67,7 +69,8 @@ impl<V: Drop> KeyTree<V> {
         }
     }
 
-    // Sets the value of a sequence. Returns the value that it had, if it had one. Where memory runs out, the tree is as it was.
+    // Sets the value of a sequence. Returns the value that it had, if it had one. Where memory runs
+    // out, the tree is as it was.
     pub(crate) fn insert(&mut self, keys: &[KeyEvent], value: V) -> Result<Option<V>>
         ensures puts { OnOk result (Puts self.old self.new keys.now value) }
         ensures old { IfOk result (λ old. old ≡ value_of self.old keys.now) }
@@ -157,7 +160,8 @@ fn find<V>(nodes: &[Node<V>], keys: &[KeyEvent]) -> Option<usize>
     }
 }
 
-// Returns nodes one after another by these keys, numbered from `first`, of which the last one has the value.
+// Returns nodes one after another by these keys, numbered from `first`, of which the last one has
+// the value.
 fn branch<V: Drop>(alloc: Global, keys: &[KeyEvent], first: usize, value: V) -> Result<Vec<Node<V>>>
     requires numbered { first + length keys.now < 2 ^ 64 }
     ensures shape { IfOk result (λ nodes. shape_of nodes.items ≡ tree.branch first keys.now) }

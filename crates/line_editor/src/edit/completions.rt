@@ -22,8 +22,8 @@ impl<'out, 'prompt, W: Renderer, H: Helper, P: Prompt, S: History> State<
     P,
     S,
 > {
-    /// Returns where the part of the line that can be completed begins, which ends at the cursor, and the helper's candidates
-    /// for it. Without a helper there are none.
+    /// Returns where the part of the line that can be completed begins, which ends at the cursor,
+    /// and the helper's candidates for it. Without a helper there are none.
     ///
     /// # Errors
     /// Those of the helper: `Io` and `Memory`.
@@ -38,12 +38,14 @@ impl<'out, 'prompt, W: Renderer, H: Helper, P: Prompt, S: History> State<
         self.parties.complete(self.alloc, self.line.edited.line())
     }
 
-    /// Puts the text of an elected candidate in place of what stands from byte `start` to the cursor, or does with it what the
-    /// helper does by itself, as one group of changes; a group that was open is closed before. Returns whether the changes
-    /// have grown by it. Where `start` is no character boundary at or before the cursor, nothing happens.
+    /// Puts the text of an elected candidate in place of what stands from byte `start` to the
+    /// cursor, or does with it what the helper does by itself, as one group of changes; a group
+    /// that was open is closed before. Returns whether the changes have grown by it. Where `start`
+    /// is no character boundary at or before the cursor, nothing happens.
     ///
     /// # Errors
-    /// Those of the helper: `Io` and `Memory`. The line may then be any; the saved line, the history index and the hint stay.
+    /// Those of the helper: `Io` and `Memory`. The line may then be any; the saved line, the
+    /// history index and the hint stay.
     pub fn update_completion(&mut self, start: usize, elected: &str) -> Result<bool>
         ensures comes { let e = ⟦<Self as EditorState>⟧ in let d = e.draft in
             BeginsIn (d self.old).line.text (d self.old).line.cursor start → IfOk result (λ grown.
@@ -77,7 +79,8 @@ impl<'out, 'prompt, W: Renderer, H: Helper, P: Prompt, S: History> State<
     /// Takes the newest change back: a group of changes, or one that stands alone.
     ///
     /// # Errors
-    /// `Memory`. The line may then be any, without changes; the saved line, the history index and the hint stay.
+    /// `Memory`. The line may then be any, without changes; the saved line, the history index and
+    /// the hint stay.
     pub fn take_back(&mut self) -> Result<()>
         ensures draft { let d = ⟦<Self as EditorState>⟧.draft in
             OnOk result (d self.new ≡ taken_back_once (d self.old)) }

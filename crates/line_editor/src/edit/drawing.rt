@@ -33,9 +33,9 @@ impl<'out, 'prompt, W: Renderer, H: Helper, P: Prompt, S: History> State<
         self.parties.highlighter(self.view.colors_enabled())
     }
 
-    /// Draws the line again after its own prompt. `All` draws it in full, with the hint that is there. `Min` keeps the layout
-    /// of what is drawn and draws by it, with nothing cleared before and with the hint where the layout has one: it is for a
-    /// screen that lost what it showed.
+    /// Draws the line again after its own prompt. `All` draws it in full, with the hint that is
+    /// there. `Min` keeps the layout of what is drawn and draws by it, with nothing cleared before
+    /// and with the hint where the layout has one: it is for a screen that lost what it showed.
     ///
     /// # Errors
     /// Those of the renderer.
@@ -78,8 +78,8 @@ impl<'out, 'prompt, W: Renderer, H: Helper, P: Prompt, S: History> State<
         )
     }
 
-    /// Clears the screen. The kept cursor and end are then in the first column of the first row, and what the screen shows is
-    /// not specified: `refresh_line` is to follow.
+    /// Clears the screen. The kept cursor and end are then in the first column of the first row,
+    /// and what the screen shows is not specified: `refresh_line` is to follow.
     ///
     /// # Errors
     /// Those of the renderer. Then the kept layout stays.
@@ -93,8 +93,8 @@ impl<'out, 'prompt, W: Renderer, H: Helper, P: Prompt, S: History> State<
         self.view.clear_screen()
     }
 
-    /// Takes the terminal's cursor to the first column, below what is there. The kept layout stays, and what the screen shows
-    /// is not specified.
+    /// Takes the terminal's cursor to the first column, below what is there. The kept layout stays,
+    /// and what the screen shows is not specified.
     ///
     /// # Errors
     /// Those of the renderer.
@@ -106,9 +106,9 @@ impl<'out, 'prompt, W: Renderer, H: Helper, P: Prompt, S: History> State<
         self.view.move_cursor_at_leftmost(rdr)
     }
 
-    /// Writes a text by itself below what is shown, from the first column on. The kept layout stays, and what the screen shows
-    /// is not specified: `refresh_line` is to follow, which draws the line below a text that ends a row. After any other text,
-    /// write an empty text first.
+    /// Writes a text by itself below what is shown, from the first column on. The kept layout
+    /// stays, and what the screen shows is not specified: `refresh_line` is to follow, which draws
+    /// the line below a text that ends a row. After any other text, write an empty text first.
     ///
     /// # Errors
     /// Those of the renderer.
@@ -138,14 +138,15 @@ impl<'out, 'prompt, W: Resizable, H: Helper, P: Prompt, S: History> State<
     P,
     S,
 > {
-    /// Gives the screen another number of columns and of rows, measures the prompt anew, and draws the line in full after it,
-    /// with the hint that is there; a message or another prompt that is shown disappears. The line, its changes, the hint and
-    /// the history index stay. The rows that were drawn before are cleared; a terminal that wraps lines anew by itself may keep
-    /// some of them above.
+    /// Gives the screen another number of columns and of rows, measures the prompt anew, and draws
+    /// the line in full after it, with the hint that is there; a message or another prompt that is
+    /// shown disappears. The line, its changes, the hint and the history index stay. The rows that
+    /// were drawn before are cleared; a terminal that wraps lines anew by itself may keep some of
+    /// them above.
     ///
     /// # Errors
-    /// Those of the renderer. Columns and rows are the new ones then, and the kept layout is the old one: another full redraw
-    /// is to follow.
+    /// Those of the renderer. Columns and rows are the new ones then, and the kept layout is the
+    /// old one: another full redraw is to follow.
     #[tactic(auto, using(crate::proofs::EditLemmas::shown_hint))]
     pub fn resized(&mut self, columns: Unit, rows: Unit) -> Result<()>
         requires { 0 < columns }

@@ -36,8 +36,9 @@ impl<'out, 'prompt, W: Renderer, H: Helper, P: Prompt, S: History> State<
     P,
     S,
 > {
-    // Puts what the hint completes the line with at the end of the cursor's line, asks for the next hint and draws the line.
-    // There is a beep where the hint completes nothing. Without a hint nothing happens.
+    // Puts what the hint completes the line with at the end of the cursor's line, asks for the next
+    // hint and draws the line. There is a beep where the hint completes nothing. Without a hint
+    // nothing happens.
     pub(crate) fn complete_hint(&mut self) -> Result<()>
         ensures { DoesCommand ⟦<Self as EditorState>⟧ result self.old self.new
             commands.complete_hint }
@@ -49,7 +50,8 @@ impl<'out, 'prompt, W: Renderer, H: Helper, P: Prompt, S: History> State<
         self.refresh_line()
     }
 
-    // Puts what the hint completes the line with at the end of the cursor's line. There is a beep where it completes nothing.
+    // Puts what the hint completes the line with at the end of the cursor's line. There is a beep
+    // where it completes nothing.
     fn yank_hint(&mut self) -> Result<()>
         ensures draft { let e = ⟦<Self as EditorState>⟧ in let d = e.draft self.old in
             OnOk result (e.draft self.new ≡ with_edited d

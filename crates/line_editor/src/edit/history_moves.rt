@@ -61,7 +61,8 @@ impl<'out, 'prompt, W: Renderer, H: Helper, P: Prompt, S: History> State<
     /// Puts the saved line in place of the line, with its cursor. Nothing is drawn.
     ///
     /// # Errors
-    /// That memory ran out. Then the line has no changes; the saved line, the history index and the hint stay.
+    /// That memory ran out. Then the line has no changes; the saved line, the history index and the
+    /// hint stay.
     pub fn restore(&mut self) -> Result<()>
         ensures draft { let d = ⟦<Self as EditorState>⟧.draft in OnOk result
             (d self.new ≡ restored (d self.old)) }
@@ -78,14 +79,16 @@ impl<'out, 'prompt, W: Renderer, H: Helper, P: Prompt, S: History> State<
         Ok(self.line.edited.update(saved.as_str(), saved.pos())?)
     }
 
-    /// Puts the line of the history at an index in the line's place as one group of changes, with the cursor at byte `pos` of it,
-    /// or at its end where that is no character boundary. A group that was open is closed before, and the line is saved where it
-    /// is the one that is being written. Returns whether the changes have grown by it. Without a line at that index nothing
+    /// Puts the line of the history at an index in the line's place as one group of changes, with
+    /// the cursor at byte `pos` of it, or at its end where that is no character boundary. A group
+    /// that was open is closed before, and the line is saved where it is the one that is being
+    /// written. Returns whether the changes have grown by it. Without a line at that index nothing
     /// happens. Nothing is drawn.
     ///
     /// # Errors
-    /// Those of the history: `Io` and `Memory`. Then either all is as it was; or the line has no changes, the saved line is the
-    /// one that was to be saved, and the history index stays. The hint stays.
+    /// Those of the history: `Io` and `Memory`. Then either all is as it was; or the line has no
+    /// changes, the saved line is the one that was to be saved, and the history index stays. The
+    /// hint stays.
     pub fn put_entry(&mut self, pos: usize, index: usize) -> Result<bool>
         ensures draft { let e = ⟦<Self as EditorState>⟧ in OnOk result
             (e.draft self.new ≡ entry_put (e.environment self.old) pos index (e.draft self.old)) }
@@ -114,8 +117,9 @@ impl<'out, 'prompt, W: Renderer, H: Helper, P: Prompt, S: History> State<
         Ok(grown)
     }
 
-    /// Puts the cursor at byte `pos`, where that is a character boundary, and says that the line is the one of the history at
-    /// an index, or the one that is being written where the history has no such line. Nothing is drawn.
+    /// Puts the cursor at byte `pos`, where that is a character boundary, and says that the line is
+    /// the one of the history at an index, or the one that is being written where the history has
+    /// no such line. Nothing is drawn.
     pub fn return_to(&mut self, pos: usize, index: usize)
         ensures draft { let e = ⟦<Self as EditorState>⟧ in
             e.draft self.new ≡ returned_to (e.environment self.old) pos index (e.draft self.old) }
@@ -128,8 +132,9 @@ impl<'out, 'prompt, W: Renderer, H: Helper, P: Prompt, S: History> State<
         self.parties.set_history_index(index.min(end));
     }
 
-    /// Shows the line of the history before this one where `prev` is true, and else the one after it: after the last one
-    /// stands the line that is being written. At the history's ends, and in an empty history, nothing happens.
+    /// Shows the line of the history before this one where `prev` is true, and else the one after
+    /// it: after the last one stands the line that is being written. At the history's ends, and in
+    /// an empty history, nothing happens.
     ///
     /// # Errors
     /// Those of the helper, the history and the renderer, and that memory ran out.
@@ -148,8 +153,9 @@ impl<'out, 'prompt, W: Renderer, H: Helper, P: Prompt, S: History> State<
         self.show_next()
     }
 
-    /// Shows the first line of the history where `first` is true, or else comes back to the line that is being written.
-    /// Nothing happens where that line is shown already, and in an empty history.
+    /// Shows the first line of the history where `first` is true, or else comes back to the line
+    /// that is being written. Nothing happens where that line is shown already, and in an empty
+    /// history.
     ///
     /// # Errors
     /// Those of the helper, the history and the renderer, and that memory ran out.
@@ -168,9 +174,10 @@ impl<'out, 'prompt, W: Renderer, H: Helper, P: Prompt, S: History> State<
         self.show_end()
     }
 
-    /// Moves one line back in the history, or on, and from there to the nearest line that begins with the text before the cursor.
-    /// That line is shown, with the cursor after that text. Where there is none the index has moved, and there is a beep. At the
-    /// history's ends there is only a beep.
+    /// Moves one line back in the history, or on, and from there to the nearest line that begins
+    /// with the text before the cursor. That line is shown, with the cursor after that text. Where
+    /// there is none the index has moved, and there is a beep. At the history's ends there is only
+    /// a beep.
     ///
     /// # Errors
     /// Those of the helper, the history and the renderer, and that memory ran out.
@@ -210,7 +217,8 @@ impl<'out, 'prompt, W: Renderer, H: Helper, P: Prompt, S: History> State<
         self.leave_for(index - 1)
     }
 
-    // Shows the line after this one, if there is one: after the history's last stands the one that is being written.
+    // Shows the line after this one, if there is one: after the history's last stands the one that
+    // is being written.
     #[tactic(auto, using(crate::proofs::HistoryMoveLemmas::way_stays, crate::proofs::HistoryMoveLemmas::way_goes, crate::proofs::HistoryMoveLemmas::way_goes_once))]
     fn show_next(&mut self) -> Result<()>
         ensures { DoesCommand ⟦<Self as EditorState>⟧ result self.old self.new
@@ -277,7 +285,8 @@ impl<'out, 'prompt, W: Renderer, H: Helper, P: Prompt, S: History> State<
         Ok(())
     }
 
-    // Saves the line where it is the one that is being written, and shows the one of the history at an index.
+    // Saves the line where it is the one that is being written, and shows the one of the history at
+    // an index.
     fn leave_for(&mut self, index: usize) -> Result<()>
         requires { index + 1 ≤ length (⟦<Self as EditorState>⟧.environment self.old).lines }
         ensures { let e = ⟦<Self as EditorState>⟧ in let w = e.environment self.old in
@@ -305,7 +314,8 @@ impl<'out, 'prompt, W: Renderer, H: Helper, P: Prompt, S: History> State<
         self.show_text(text, text.len(), index)
     }
 
-    // Puts a text of the history in the line's place, with the cursor at byte `pos` of it, as the line at an index.
+    // Puts a text of the history in the line's place, with the cursor at byte `pos` of it, as the
+    // line at an index.
     fn show_text(&mut self, text: &str, pos: usize, index: usize) -> Result<()>
         requires boundary { IsCharBoundary text.now pos }
         requires index { index ≤ length (⟦<Self as EditorState>⟧.environment self.old).lines }
@@ -329,7 +339,8 @@ impl<'out, 'prompt, W: Renderer, H: Helper, P: Prompt, S: History> State<
         self.refresh_line()
     }
 
-    // Goes to an index, and from there to the nearest line that begins with the text before the cursor, and shows it.
+    // Goes to an index, and from there to the nearest line that begins with the text before the
+    // cursor, and shows it.
     #[tactic(auto, using(crate::proofs::AskedLemmas::sure_look_up))]
     fn search_from(&mut self, index: usize, dir: SearchDirection) -> Result<()>
         requires { index ≤ length (⟦<Self as EditorState>⟧.environment self.old).lines }

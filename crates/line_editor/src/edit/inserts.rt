@@ -27,9 +27,10 @@ impl<'out, 'prompt, W: Renderer, H: Helper, P: Prompt, S: History> State<
     P,
     S,
 > {
-    /// Inserts `n` copies of a character at the cursor, which then stands after them, and asks for the hint. Where the line
-    /// is printable ASCII and newlines, with no hint, no text after it and no highlighting, before and after, one printable
-    /// ASCII character at its end is drawn alone, if a column is left after it. Else the line is drawn again.
+    /// Inserts `n` copies of a character at the cursor, which then stands after them, and asks for
+    /// the hint. Where the line is printable ASCII and newlines, with no hint, no text after it and
+    /// no highlighting, before and after, one printable ASCII character at its end is drawn alone,
+    /// if a column is left after it. Else the line is drawn again.
     ///
     /// # Errors
     /// Those of the helper, the history and the renderer, and that memory ran out.
@@ -57,7 +58,8 @@ impl<'out, 'prompt, W: Renderer, H: Helper, P: Prompt, S: History> State<
             && self.is_bare()
     }
 
-    // Returns whether the line is printable ASCII and newlines, with no hint and no text drawn after it.
+    // Returns whether the line is printable ASCII and newlines, with no hint and no text drawn
+    // after it.
     pub(crate) fn is_bare(&self) -> bool
         ensures { let e = ⟦<Self as EditorState>⟧ in
             result ≡ is_bare_line (e.display self.now) (e.draft self.now) }
@@ -84,8 +86,9 @@ impl<'out, 'prompt, W: Renderer, H: Helper, P: Prompt, S: History> State<
         self.refresh_line()
     }
 
-    /// Puts a character in place of each of `n` clusters from the cursor on, or of as many as there are. The cursor is then
-    /// on the last of them. At the text's end, and for `n` = 0, the line stays. Open groups of changes end in any case.
+    /// Puts a character in place of each of `n` clusters from the cursor on, or of as many as there
+    /// are. The cursor is then on the last of them. At the text's end, and for `n` = 0, the line
+    /// stays. Open groups of changes end in any case.
     ///
     /// # Errors
     /// Those of the helper, the history and the renderer, and that memory ran out.
@@ -97,8 +100,8 @@ impl<'out, 'prompt, W: Renderer, H: Helper, P: Prompt, S: History> State<
         self.show_edit(replaced)
     }
 
-    /// Puts a character in place of the cluster at the cursor, which then stands after it. At the text's end nothing
-    /// happens.
+    /// Puts a character in place of the cluster at the cursor, which then stands after it. At the
+    /// text's end nothing happens.
     ///
     /// # Errors
     /// Those of the helper, the history and the renderer, and that memory ran out.
@@ -110,9 +113,9 @@ impl<'out, 'prompt, W: Renderer, H: Helper, P: Prompt, S: History> State<
         self.show_edit(replaced)
     }
 
-    /// Puts `n` copies of a text before the cluster at the cursor, or after it, and the cursor after them; in Vi's command
-    /// mode the cursor then goes one cluster back. With the empty text only the cursor moves: for `After`, after the
-    /// cluster.
+    /// Puts `n` copies of a text before the cluster at the cursor, or after it, and the cursor
+    /// after them; in Vi's command mode the cursor then goes one cluster back. With the empty text
+    /// only the cursor moves: for `After`, after the cluster.
     ///
     /// # Errors
     /// Those of the helper, the history and the renderer, and that memory ran out.
@@ -133,8 +136,9 @@ impl<'out, 'prompt, W: Renderer, H: Helper, P: Prompt, S: History> State<
         self.show_edit(yanked)
     }
 
-    /// Puts a text in place of the `yank_size` bytes before the cursor, which were yanked. Where fewer bytes stand there, or
-    /// they would cut a character, the line stays. Open groups of changes end in any case.
+    /// Puts a text in place of the `yank_size` bytes before the cursor, which were yanked. Where
+    /// fewer bytes stand there, or they would cut a character, the line stays. Open groups of
+    /// changes end in any case.
     ///
     /// # Errors
     /// Those of the helper, the history and the renderer, and that memory ran out.

@@ -30,16 +30,17 @@ impl<'out, 'prompt, W: Renderer, H: Helper, P: Prompt, S: History> State<
     P,
     S,
 > {
-    /// Kills the text of a movement and keeps it in `kill_ring` as `LineBuffer::kill` does, and asks for the hint. Where the
-    /// line is printable ASCII and newlines, with no hint, no text after it and no highlighting, before and after, printable
-    /// ASCII that is killed at its end is cleared from its row, if kept cursor and end are on one row and go back no further
-    /// than its first column. Else the line is drawn again. Where there is nothing to kill, nothing happens.
+    /// Kills the text of a movement and keeps it in `kill_ring` as `LineBuffer::kill` does, and
+    /// asks for the hint. Where the line is printable ASCII and newlines, with no hint, no text
+    /// after it and no highlighting, before and after, printable ASCII that is killed at its end is
+    /// cleared from its row, if kept cursor and end are on one row and go back no further than its
+    /// first column. Else the line is drawn again. Where there is nothing to kill, nothing happens.
     ///
     /// # Errors
-    /// Those of the helper, the history and the renderer, and that memory ran out. After one of input or output `kill_ring`
-    /// is as the kill leaves it, and where that changes it, so are the line, its cursor and its changes. Where memory ran out
-    /// the line may be any, without changes, and `kill_ring` may be the one from before, with a kill as its last action or
-    /// not.
+    /// Those of the helper, the history and the renderer, and that memory ran out. After one of
+    /// input or output `kill_ring` is as the kill leaves it, and where that changes it, so are the
+    /// line, its cursor and its changes. Where memory ran out the line may be any, without changes,
+    /// and `kill_ring` may be the one from before, with a kill as its last action or not.
     pub fn edit_kill(&mut self, movement: &Movement, kill_ring: &mut KillRing) -> Result<()>
         ensures does { DoesKilling ⟦<Self as EditorState>⟧ result self.old kill_ring.old
             self.new kill_ring.new (commands.kill movement.now) }
@@ -154,7 +155,8 @@ impl<'out, 'prompt, W: Renderer, H: Helper, P: Prompt, S: History> State<
         Ok(())
     }
 
-    // Takes away the text from the bracket at the cursor to its match, if it has one, and draws the line again.
+    // Takes away the text from the bracket at the cursor to its match, if it has one, and draws the
+    // line again.
     fn remove_to_bracket(&mut self) -> Result<()>
         ensures { let e = ⟦<Self as EditorState>⟧ in let d = e.draft self.old in
             EditsThenDraws e result self.old self.new
@@ -177,7 +179,8 @@ impl<'out, 'prompt, W: Renderer, H: Helper, P: Prompt, S: History> State<
         self.remove_to_bracket()
     }
 
-    // Kills the text from the bracket at the cursor to its match, if it has one, and inserts a text, if there is one.
+    // Kills the text from the bracket at the cursor to its match, if it has one, and inserts a
+    // text, if there is one.
     pub(crate) fn replace_to_bracket(
         &mut self,
         text: Option<&str>,

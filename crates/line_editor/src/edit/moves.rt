@@ -30,9 +30,10 @@ impl<'out, 'prompt, W: Renderer, H: Helper, P: Prompt, S: History> State<
     P,
     S,
 > {
-    /// Moves the screen cursor to where the line's cursor is. Nothing is drawn where the kept cursor is there already. Where
-    /// `highlight_char` says that the line is highlighted, or said so the time before, the line is drawn in full, with nothing
-    /// after it. `kind` is what `highlight_char` is told.
+    /// Moves the screen cursor to where the line's cursor is. Nothing is drawn where the kept
+    /// cursor is there already. Where `highlight_char` says that the line is highlighted, or said
+    /// so the time before, the line is drawn in full, with nothing after it. `kind` is what
+    /// `highlight_char` is told.
     ///
     /// # Errors
     /// Those of the renderer.
@@ -43,7 +44,8 @@ impl<'out, 'prompt, W: Renderer, H: Helper, P: Prompt, S: History> State<
         self.put_cursor(position, kind)
     }
 
-    // Moves the screen cursor to a position: alone, or with the line in full where it is highlighted.
+    // Moves the screen cursor to a position: alone, or with the line in full where it is
+    // highlighted.
     fn put_cursor(&mut self, position: Position, kind: CmdKind) -> Result<()>
         ensures { PutsCursorAt ⟦<Self as EditorState>⟧ result self.old self.new kind position }
     {
@@ -122,7 +124,8 @@ impl<'out, 'prompt, W: Renderer, H: Helper, P: Prompt, S: History> State<
         self.follow(&Movement::EndOfBuffer, kind)
     }
 
-    /// Moves the cursor back to the start of the `n`-th word before it. The screen cursor moves along.
+    /// Moves the cursor back to the start of the `n`-th word before it. The screen cursor moves
+    /// along.
     ///
     /// # Errors
     /// Those of the renderer.
@@ -134,8 +137,8 @@ impl<'out, 'prompt, W: Renderer, H: Helper, P: Prompt, S: History> State<
         self.follow(&Movement::BackwardWord(n, word_def), CmdKind::MoveCursor)
     }
 
-    /// Moves the cursor on by `n` words: to the start of one, to before its end or to after it, as `at` says. The screen
-    /// cursor moves along.
+    /// Moves the cursor on by `n` words: to the start of one, to before its end or to after it, as
+    /// `at` says. The screen cursor moves along.
     ///
     /// # Errors
     /// Those of the renderer.
@@ -147,8 +150,8 @@ impl<'out, 'prompt, W: Renderer, H: Helper, P: Prompt, S: History> State<
         self.follow(&Movement::ForwardWord(n, at, word_def), CmdKind::MoveCursor)
     }
 
-    /// Moves the cursor to the `n`-th place that the search leads to, or to the last where there are fewer. The screen cursor
-    /// moves along.
+    /// Moves the cursor to the `n`-th place that the search leads to, or to the last where there
+    /// are fewer. The screen cursor moves along.
     ///
     /// # Errors
     /// Those of the renderer.
@@ -159,8 +162,9 @@ impl<'out, 'prompt, W: Renderer, H: Helper, P: Prompt, S: History> State<
         self.follow(&Movement::ViCharSearch(n, cs), CmdKind::MoveCursor)
     }
 
-    /// Moves the cursor `n` lines up, one for `n` = 0, to the column where it stands. The screen cursor moves along. Returns
-    /// whether there is such a line: on the first line nothing moves and nothing is drawn.
+    /// Moves the cursor `n` lines up, one for `n` = 0, to the column where it stands. The screen
+    /// cursor moves along. Returns whether there is such a line: on the first line nothing moves
+    /// and nothing is drawn.
     ///
     /// # Errors
     /// Those of the renderer.
@@ -181,8 +185,9 @@ impl<'out, 'prompt, W: Renderer, H: Helper, P: Prompt, S: History> State<
         Ok(true)
     }
 
-    /// Moves the cursor `n` lines down, one for `n` = 0, to the column where it stands. The screen cursor moves along. Returns
-    /// whether there is such a line: on the last line nothing moves and nothing is drawn.
+    /// Moves the cursor `n` lines down, one for `n` = 0, to the column where it stands. The screen
+    /// cursor moves along. Returns whether there is such a line: on the last line nothing moves and
+    /// nothing is drawn.
     ///
     /// # Errors
     /// Those of the renderer.
@@ -203,7 +208,8 @@ impl<'out, 'prompt, W: Renderer, H: Helper, P: Prompt, S: History> State<
         Ok(true)
     }
 
-    // Moves the cursor by a movement. To the first character of a line that is no white space it takes two moves.
+    // Moves the cursor by a movement. To the first character of a line that is no white space it
+    // takes two moves.
     pub(crate) fn move_by(&mut self, movement: &Movement) -> Result<()>
         ensures { let e = ⟦<Self as EditorState>⟧ in let d = e.draft self.old in
             let drawing = move_drawn d.line movement.now in
@@ -237,7 +243,8 @@ impl<'out, 'prompt, W: Renderer, H: Helper, P: Prompt, S: History> State<
         Ok(())
     }
 
-    // Moves the cursor `n` lines up, or from the first line to the line of the history before this one.
+    // Moves the cursor `n` lines up, or from the first line to the line of the history before this
+    // one.
     pub(crate) fn up_or_previous(&mut self, n: RepeatCount) -> Result<()>
         ensures { DoesCommand ⟦<Self as EditorState>⟧ result self.old self.new
             (commands.line_up_or_previous_history n) }
@@ -248,7 +255,8 @@ impl<'out, 'prompt, W: Renderer, H: Helper, P: Prompt, S: History> State<
         self.edit_history_next(true)
     }
 
-    // Moves the cursor `n` lines down, or from the last line to the line of the history after this one.
+    // Moves the cursor `n` lines down, or from the last line to the line of the history after this
+    // one.
     pub(crate) fn down_or_next(&mut self, n: RepeatCount) -> Result<()>
         ensures { DoesCommand ⟦<Self as EditorState>⟧ result self.old self.new
             (commands.line_down_or_next_history n) }
@@ -275,7 +283,8 @@ impl<'out, 'prompt, W: Renderer, H: Helper, P: Prompt, S: History> State<
         self.put_cursor(position, kind)
     }
 
-    /// Moves the screen cursor to where what is shown ends, a hint or message after the line included.
+    /// Moves the screen cursor to where what is shown ends, a hint or message after the line
+    /// included.
     ///
     /// # Errors
     /// Those of the renderer.

@@ -1,5 +1,5 @@
-//! A line that is open for editing, and how it is kept while nothing is lent to it: what a program with a loop of its own
-//! holds between two reads.
+//! A line that is open for editing, and how it is kept while nothing is lent to it: what a program
+//! with a loop of its own holds between two reads.
 ghost use Rattle.std.specs.Prelude.{◌≡◌, ◌≤◌, length, option_map};
 ghost use Rattle.line_editor.specs.Editor.{EditorBegins};
 ghost use Rattle.line_parts.specs.Helped.{environment_by, sure_by};
@@ -15,7 +15,8 @@ use line_state::{DrawnLine, EditedLine, Renderer, ScreenState, View};
 use std::alloc::Global;
 use std::marker::Model;
 
-/// A line that is open for editing: the line with its changes, the line that was left for the history, and the hint.
+/// A line that is open for editing: the line with its changes, the line that was left for the
+/// history, and the hint.
 pub(crate) struct OpenLine<H: Helper> {
     pub(crate) edited: EditedLine,
     pub(crate) saved_line_for_history: LineBuffer,
@@ -84,8 +85,8 @@ impl<'out, 'prompt, W: Renderer, H: Helper, P: Prompt, S: History> State<
     P,
     S,
 > {
-    /// Ends the state. Returns the line, which `resume` takes up again, and the renderer and the helper that were lent. Nothing
-    /// is drawn and nothing changes.
+    /// Ends the state. Returns the line, which `resume` takes up again, and the renderer and the
+    /// helper that were lent. Nothing is drawn and nothing changes.
     pub fn release(self) -> (KeptLine<H>, &'out mut W, Option<&'out mut H>)
         ensures draft { result.0.draft ≡ ⟦<Self as EditorState>⟧.draft self.entry }
         ensures display { let d = ⟦<Self as EditorState>⟧.display self.entry in d ≡ display_on
@@ -120,8 +121,9 @@ impl<'out, 'prompt, W: Renderer, H: Helper, P: Prompt, S: History> State<
         (kept, out, helper)
     }
 
-    /// Returns the edit state of a line that was kept, on the renderer and after the prompt that it was drawn with. Nothing is
-    /// drawn and nothing changes. The history has at least as many lines as the line's history index says.
+    /// Returns the edit state of a line that was kept, on the renderer and after the prompt that it
+    /// was drawn with. Nothing is drawn and nothing changes. The history has at least as many lines
+    /// as the line's history index says.
     pub fn resume(
         alloc: Global,
         kept: KeptLine<H>,

@@ -29,14 +29,15 @@ impl<'out, 'prompt, W: Renderer, H: Helper, P: Prompt, S: History> State<
     P,
     S,
 > {
-    /// Reads the next command, by the program's bindings, the reader's and the tables, and begins a group of changes for a
-    /// replacement.
+    /// Reads the next command, by the program's bindings, the reader's and the tables, and begins a
+    /// group of changes for a replacement.
     ///
     /// # Errors
-    /// `Eof` where the items ended inside a phrase or before one; then a phrase that was cut short can be read again with
-    /// more items after it. Another error is one of input or output, or that memory ran out. After an error the line, its
-    /// cursor, the history index and what is remembered of the keys stay as they were, and no item past the phrase that was
-    /// begun is read.
+    /// `Eof` where the items ended inside a phrase or before one; then a phrase that was cut short
+    /// can be read again with more items after it. Another error is one of input or output, or that
+    /// memory ran out. After an error the line, its cursor, the history index and what is
+    /// remembered of the keys stay as they were, and no item past the phrase that was begun is
+    /// read.
     pub fn next_cmd<C: ConditionalEventHandler>(
         &mut self,
         input_state: &mut InputState<'_, C>,

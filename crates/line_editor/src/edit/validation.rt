@@ -27,12 +27,13 @@ impl<'out, 'prompt, W: Renderer, H: Helper, P: Prompt, S: History> State<
     P,
     S,
 > {
-    /// Asks the helper to validate the line, inside a group of changes, and draws the line with the message of the validation
-    /// result where there is something to show or to take away. Returns the result; without a helper every line is valid.
+    /// Asks the helper to validate the line, inside a group of changes, and draws the line with the
+    /// message of the validation result where there is something to show or to take away. Returns
+    /// the result; without a helper every line is valid.
     ///
     /// # Errors
-    /// Those of the validator and of the renderer, and that memory ran out. The groups of changes are then as before, or have
-    /// ended.
+    /// Those of the validator and of the renderer, and that memory ran out. The groups of changes
+    /// are then as before, or have ended.
     #[tactic(auto, using(crate::proofs::EditLemmas::no_verdict, crate::proofs::EditLemmas::not_validated, crate::proofs::EditLemmas::was_validated))]
     pub fn validate(&mut self) -> Result<ValidationResult>
         ensures verdict { let e = ⟦<Self as EditorState>⟧ in IfOk result (λ r.
@@ -52,8 +53,8 @@ impl<'out, 'prompt, W: Renderer, H: Helper, P: Prompt, S: History> State<
         Ok(verdict)
     }
 
-    // Asks the helper for a validation result, inside a group of changes. Returns it, and whether closing the group added a
-    // change.
+    // Asks the helper for a validation result, inside a group of changes. Returns it, and whether
+    // closing the group added a change.
     #[tactic(auto, using(crate::proofs::DrawnLemmas::line_stays, crate::proofs::DrawnLemmas::no_hint_stays))]
     fn ask_verdict(&mut self) -> Result<(ValidationResult, bool)>
         ensures verdict { let e = ⟦<Self as EditorState>⟧ in IfOk result (λ r.
@@ -73,7 +74,8 @@ impl<'out, 'prompt, W: Renderer, H: Helper, P: Prompt, S: History> State<
     }
 
     #[tactic(auto, using(crate::proofs::DrawnLemmas::message_trails, crate::proofs::DrawnLemmas::message_behind, crate::proofs::DrawnLemmas::line_stays, crate::proofs::DrawnLemmas::no_hint_stays))]
-    // Draws the line with the message of a validation result, where there is something to show or to take away.
+    // Draws the line with the message of a validation result, where there is something to show or
+    // to take away.
     fn show_verdict(&mut self, verdict: &ValidationResult, corrected: bool) -> Result<()>
         requires { let e = ⟦<Self as EditorState>⟧ in verdict_of verdict.now
             ≡ verdict_on (e.environment self.old) (e.draft self.old).line.text }
@@ -96,8 +98,8 @@ impl<'out, 'prompt, W: Renderer, H: Helper, P: Prompt, S: History> State<
         Ok(())
     }
 
-    // Takes the hint away: by a full redraw without it, where a hint is there, a character is highlighted or another prompt
-    // is shown.
+    // Takes the hint away: by a full redraw without it, where a hint is there, a character is
+    // highlighted or another prompt is shown.
     pub(crate) fn drop_hint(&mut self) -> Result<()>
         ensures does { let e = ⟦<Self as EditorState>⟧ in let d = e.draft self.old in
             DoesAsking e nobody result self.old self.new (unhinted d)

@@ -22,9 +22,9 @@ impl<'out, 'prompt, W: Renderer, H: Helper, P: Prompt, S: History> State<
     P,
     S,
 > {
-    /// Exchanges the cluster before the cursor and the one at it, or the last two at the text's end. The cursor then stands
-    /// after both. At the text's start, and with fewer than two clusters, the line stays. Open groups of changes end in any
-    /// case.
+    /// Exchanges the cluster before the cursor and the one at it, or the last two at the text's
+    /// end. The cursor then stands after both. At the text's start, and with fewer than two
+    /// clusters, the line stays. Open groups of changes end in any case.
     ///
     /// # Errors
     /// Those of the helper, the history and the renderer, and that memory ran out.
@@ -36,8 +36,9 @@ impl<'out, 'prompt, W: Renderer, H: Helper, P: Prompt, S: History> State<
         self.show_edit(exchanged)
     }
 
-    /// Exchanges the word that ends `n` words on from the cursor with the `n`-th word before it. The cursor then stands
-    /// after both. Where these are not two words, the cursor alone moves: after the first.
+    /// Exchanges the word that ends `n` words on from the cursor with the `n`-th word before it.
+    /// The cursor then stands after both. Where these are not two words, the cursor alone moves:
+    /// after the first.
     ///
     /// # Errors
     /// Those of the helper, the history and the renderer, and that memory ran out.
@@ -49,8 +50,8 @@ impl<'out, 'prompt, W: Renderer, H: Helper, P: Prompt, S: History> State<
         self.show_edit(exchanged)
     }
 
-    /// Changes the case of the next word, and puts the cursor after it. Without a word the line stays. Open groups of
-    /// changes end in any case.
+    /// Changes the case of the next word, and puts the cursor after it. Without a word the line
+    /// stays. Open groups of changes end in any case.
     ///
     /// # Errors
     /// Those of the helper, the history and the renderer, and that memory ran out.
@@ -64,8 +65,8 @@ impl<'out, 'prompt, W: Renderer, H: Helper, P: Prompt, S: History> State<
         self.show_edit(changed)
     }
 
-    /// Puts `amount` spaces before each line of the movement, or with `dedent` takes up to as many white-space
-    /// characters from its front.
+    /// Puts `amount` spaces before each line of the movement, or with `dedent` takes up to as many
+    /// white-space characters from its front.
     ///
     /// # Errors
     /// Those of the helper, the history and the renderer, and that memory ran out.

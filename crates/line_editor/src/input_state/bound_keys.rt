@@ -22,8 +22,8 @@ use line_keys::refresher::{InputMode, Refresher};
 use std::alloc::Global;
 
 impl<C: ConditionalEventHandler> InputState<'_, C> {
-    /// Returns the command that the program's bindings have for a key of a mode under the count that was typed, done again
-    /// where it can be.
+    /// Returns the command that the program's bindings have for a key of a mode under the count
+    /// that was typed, done again where it can be.
     #[inline(always)]
     pub(crate) fn custom_binding<W: Refresher>(
         &self,
@@ -104,7 +104,8 @@ impl<C: ConditionalEventHandler> InputState<'_, C> {
     }
 }
 
-/// Returns the command that the reader itself has for the key; `EndOfFile` counts on an empty line alone.
+/// Returns the command that the reader itself has for the key; `EndOfFile` counts on an empty line
+/// alone.
 #[inline(always)]
 pub(crate) fn own_command<R: RawReader, W: Refresher>(
     rdr: &R,

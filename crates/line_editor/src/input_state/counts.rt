@@ -16,8 +16,8 @@ use line_keys::raw_reader::RawReader;
 use line_keys::refresher::{InputMode, Refresher};
 
 impl<C: ConditionalEventHandler> InputState<'_, C> {
-    /// Reads the rest of a count of an edit mode that began with a key, and the key that ends it, and draws the line again.
-    /// Returns the count and that key.
+    /// Reads the rest of a count of an edit mode that began with a key, and the key that ends it,
+    /// and draws the line again. Returns the count and that key.
     pub(crate) fn read_count<R: RawReader, W: Refresher>(
         &self,
         rdr: &mut R,

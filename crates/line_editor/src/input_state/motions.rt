@@ -25,7 +25,8 @@ use line_keys::refresher::{InputMode, Refresher};
 use line_keys::tables::{Motion, Operator, motion_of_key, multiplied};
 
 impl<C: ConditionalEventHandler> InputState<'_, C> {
-    /// Reads the motion of an operator with a count, and returns the operator's command. Without a motion it is unknown.
+    /// Reads the motion of an operator with a count, and returns the operator's command. Without a
+    /// motion it is unknown.
     pub(crate) fn read_motion<R: RawReader, W: Refresher>(
         &self,
         rdr: &mut R,
@@ -41,7 +42,8 @@ impl<C: ConditionalEventHandler> InputState<'_, C> {
         self.read_motion_from(rdr, wrt, operator, n, first)
     }
 
-    // Reads the rest of a motion that began with a key: its count, if it begins one, and what belongs to the key after it.
+    // Reads the rest of a motion that began with a key: its count, if it begins one, and what
+    // belongs to the key after it.
     fn read_motion_from<R: RawReader, W: Refresher>(
         &self,
         rdr: &mut R,

@@ -1,4 +1,5 @@
-//! Phrases: an optional count, a key and what belongs to it; in Vi also a phrase of command mode after Alt.
+//! Phrases: an optional count, a key and what belongs to it; in Vi also a phrase of command mode
+//! after Alt.
 ghost use Rattle.line_editor.specs.Reads.{ReadsKeyed, ReadsPhrase, ReadsSpelled};
 ghost use Rattle.std.specs.Prelude.{◌≡◌, true, None, Option, Some, OnOk};
 ghost use Rattle.line_config.specs.Error.{MemoryOnly};
@@ -27,8 +28,8 @@ use line_keys::raw_reader::RawReader;
 use line_keys::refresher::{InputMode, Refresher};
 use line_keys::tables::{Entry, Grouping, entry_of_key, stands_for};
 
-/// What was read of a phrase: its command, the mode and the search that it leaves, and whether the command becomes the last
-/// change.
+/// What was read of a phrase: its command, the mode and the search that it leaves, and whether the
+/// command becomes the last change.
 #[derive(Drop)]
 pub(crate) struct Read {
     pub(crate) command: Cmd,
@@ -56,8 +57,9 @@ impl<C: ConditionalEventHandler> InputState<'_, C> {
         }
     }
 
-    // Reads the rest of a phrase of command mode after a key with Alt, which stands for a plain key there. The groups of
-    // changes end first, unless a binding or the reader has a command for the key.
+    // Reads the rest of a phrase of command mode after a key with Alt, which stands for a plain key
+    // there. The groups of changes end first, unless a binding or the reader has a command for the
+    // key.
     #[inline(never)]
     fn read_alt<R: RawReader, W: Refresher>(
         &self,
@@ -82,8 +84,8 @@ impl<C: ConditionalEventHandler> InputState<'_, C> {
         Ok(self.behind_alt(read))
     }
 
-    // Reads the rest of a phrase of a mode that began with a key: its count, if it begins one, and what belongs to the key
-    // after it.
+    // Reads the rest of a phrase of a mode that began with a key: its count, if it begins one, and
+    // what belongs to the key after it.
     #[inline(always)]
     fn read_spelled<R: RawReader, W: Refresher>(
         &self,
@@ -123,9 +125,11 @@ impl<C: ConditionalEventHandler> InputState<'_, C> {
 
     // Reads what belongs to a key of a mode, under the count that was typed.
     //
-    // The way of a key: `State::cmd_from` hands the state in as `wrt`; a plain character that is typed does not get here. The program's bindings are asked first, then the
-    // reader's own, and then the tables of `line_keys`. A table gives a meaning, which says what else is to be read, and
-    // `read_tail` reads it. The command goes back through `State::next_cmd` to `execute`, which finds the edit that it names.
+    // The way of a key: `State::cmd_from` hands the state in as `wrt`; a plain character that is
+    // typed does not get here. The program's bindings are asked first, then the reader's own, and
+    // then the tables of `line_keys`. A table gives a meaning, which says what else is to be read,
+    // and `read_tail` reads it. The command goes back through `State::next_cmd` to `execute`, which
+    // finds the edit that it names.
     #[inline(always)]
     fn read_behind<R: RawReader, W: Refresher>(
         &self,
@@ -158,7 +162,8 @@ impl<C: ConditionalEventHandler> InputState<'_, C> {
         Ok(read)
     }
 
-    // Returns what a command of the bindings or of the reader is read as: it leaves the mode, the last change and the search.
+    // Returns what a command of the bindings or of the reader is read as: it leaves the mode, the
+    // last change and the search.
     #[inline(always)]
     fn at_once(&self, mode: InputMode, command: Cmd) -> Read
         ensures command { command_of result.command ≡ command_of command }
@@ -172,8 +177,8 @@ impl<C: ConditionalEventHandler> InputState<'_, C> {
         }
     }
 
-    // Sets what is remembered of a command of the tables: in Vi the mode that its key enters and whether it becomes the last
-    // change, in Emacs nothing.
+    // Sets what is remembered of a command of the tables: in Vi the mode that its key enters and
+    // whether it becomes the last change, in Emacs nothing.
     #[inline(always)]
     fn set_remembered(&self, mode: InputMode, enters: Option<InputMode>, read: &mut Read)
         ensures command { command_of read.new.command ≡ command_of read.old.command }
@@ -194,7 +199,8 @@ impl<C: ConditionalEventHandler> InputState<'_, C> {
         }
     }
 
-    // Returns what a phrase of command mode is read as after Alt: its command goes through the rule of this mode, too.
+    // Returns what a phrase of command mode is read as after Alt: its command goes through the rule
+    // of this mode, too.
     fn behind_alt(&self, read: Read) -> Read
         ensures command { command_of result.command ≡ command_of read.command }
         ensures input { let i = input_of self.now in let within = read_input read i in

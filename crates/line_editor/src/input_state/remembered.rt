@@ -32,7 +32,8 @@ impl Drop for Remembered {
 }
 
 impl Remembered {
-    /// Returns what is remembered before the first key, in the configured edit mode; Vi begins in insert mode.
+    /// Returns what is remembered before the first key, in the configured edit mode; Vi begins in
+    /// insert mode.
     pub fn new(config: &Config) -> Remembered
         ensures { remembered_input result ≡ first_input config.now.edit_mode }
     {

@@ -29,8 +29,8 @@ pub(crate) enum Sequence {
 }
 
 impl<C: ConditionalEventHandler> InputState<'_, C> {
-    /// Reads the keys of a bound sequence that begins with a key, up to one that completes a command, or after which no
-    /// bound sequence goes on.
+    /// Reads the keys of a bound sequence that begins with a key, up to one that completes a
+    /// command, or after which no bound sequence goes on.
     pub(crate) fn custom_seq_binding<R: RawReader, W: Refresher>(
         &self,
         rdr: &mut R,

@@ -29,7 +29,8 @@ use line_keys::refresher::{InputMode, Refresher};
 use line_keys::tables::{Meaning, replaced_by, second_key};
 
 impl<C: ConditionalEventHandler> InputState<'_, C> {
-    /// Reads what belongs to a key of a mode, which has this meaning, under the count that the tables took.
+    /// Reads what belongs to a key of a mode, which has this meaning, under the count that the
+    /// tables took.
     #[inline(always)]
     pub(crate) fn read_tail<R: RawReader, W: Refresher>(
         &self,
@@ -127,7 +128,8 @@ impl<C: ConditionalEventHandler> InputState<'_, C> {
         }
     }
 
-    // Reads the keys of a bound sequence, and returns their command; keys that have none stand for nothing.
+    // Reads the keys of a bound sequence, and returns their command; keys that have none stand for
+    // nothing.
     fn read_unlisted<R: RawReader, W: Refresher>(
         &self,
         rdr: &mut R,
@@ -152,7 +154,8 @@ impl<C: ConditionalEventHandler> InputState<'_, C> {
         }
     }
 
-    /// Returns a command with the last search as it was. The mode and whether it is a change are set by `set_remembered`.
+    /// Returns a command with the last search as it was. The mode and whether it is a change are
+    /// set by `set_remembered`.
     #[inline(always)]
     pub(crate) fn behind(&self, command: Cmd) -> Read
         ensures command { command_of result.command ≡ command_of command }
@@ -166,7 +169,8 @@ impl<C: ConditionalEventHandler> InputState<'_, C> {
         }
     }
 
-    // Returns the last change as it is done again, with a new count if there is one; without a change, Noop.
+    // Returns the last change as it is done again, with a new count if there is one; without a
+    // change, Noop.
     fn again<W: Refresher>(&self, wrt: &W, new: Option<RepeatCount>) -> Result<Cmd>
         ensures command { let last = last_insert_of (W.draft wrt.now).changes.entries in
             IfOk result (λ c. command_of c

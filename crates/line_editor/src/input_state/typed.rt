@@ -13,9 +13,9 @@ use line_keys::raw_reader::RawReader;
 use line_keys::refresher::InputMode;
 
 impl<C: ConditionalEventHandler> InputState<'_, C> {
-    /// Returns the character that a key types by itself, with nothing to remember of it: a plain one that neither the program
-    /// nor the reader binds, in a mode that takes characters. `None` where the key may stand for something else, or where
-    /// something is remembered of it.
+    /// Returns the character that a key types by itself, with nothing to remember of it: a plain
+    /// one that neither the program nor the reader binds, in a mode that takes characters. `None`
+    /// where the key may stand for something else, or where something is remembered of it.
     #[inline(always)]
     pub(crate) fn typed_by<R: RawReader>(&self, rdr: &R, key: KeyEvent) -> Option<char>
         ensures { let k =

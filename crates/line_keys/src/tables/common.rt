@@ -69,7 +69,8 @@ fn common_ctrl<W: Refresher>(
     }
 }
 
-// Returns the command of C-D: on a line with a text Kill in Emacs and EndOfFile in Vi, and on an empty line Unknown.
+// Returns the command of C-D: on a line with a text Kill in Emacs and EndOfFile in Vi, and on an
+// empty line Unknown.
 fn delete<W: Refresher>(mode: EditMode, count: Count, wrt: &W) -> Cmd
     ensures { (if length (W.draft wrt.now).line.text == 0 then unknown else deletes mode count)
         ≡ command_of result }

@@ -1,4 +1,5 @@
-//! What is read after the first key of a command of Vi: the motion of an operator, or the character of a replacement.
+//! What is read after the first key of a command of Vi: the motion of an operator, or the character
+//! of a replacement.
 ghost use Rattle.std.specs.Prelude.{◌≡◌};
 ghost use Rattle.line_keys.specs.Command.{command_of};
 ghost use Rattle.line_keys.specs.Motion.{bracket_motion, char_motions, is_own_key, motion_at, motion_of, multiplied, operated, operated_to_bracket, own_char, replaced_by, word_place};
@@ -10,7 +11,8 @@ use crate::tables::{Motion, Operator, SearchKind};
 use line_buffer::{At, Movement, RepeatCount, Word};
 
 impl Operator {
-    /// Returns whether a key is the operator's own, its plain character. After the operator it stands for the whole line.
+    /// Returns whether a key is the operator's own, its plain character. After the operator it
+    /// stands for the whole line.
     pub fn is_own_key(self, key: KeyEvent) -> bool
         ensures { result ≡ is_own_key self key }
     {
@@ -46,8 +48,8 @@ impl Operator {
         }
     }
 
-    /// Returns the operator's command over the text from the bracket at the cursor to its match; `Unknown` for `Indent` and
-    /// `Dedent`.
+    /// Returns the operator's command over the text from the bracket at the cursor to its match;
+    /// `Unknown` for `Indent` and `Dedent`.
     pub fn to_bracket(self) -> Cmd
         ensures { command_of result ≡ operated_to_bracket self }
     {
@@ -69,7 +71,8 @@ impl Operator {
         }
     }
 
-    // Returns where the operator leads after w and W: to the end of a word, or to the start of the next.
+    // Returns where the operator leads after w and W: to the end of a word, or to the start of the
+    // next.
     fn word_place(self) -> At
         ensures { result ≡ word_place self }
     {
@@ -80,7 +83,8 @@ impl Operator {
     }
 }
 
-/// Returns the motion of a key after an operator, with its count. The operator's own key is no motion here.
+/// Returns the motion of a key after an operator, with its count. The operator's own key is no
+/// motion here.
 pub fn motion_of_key(operator: Operator, key: KeyEvent, n: RepeatCount) -> Motion
     ensures { motion_value result ≡ motion_of operator key n }
 {
@@ -129,8 +133,8 @@ pub fn multiplied(n: RepeatCount, m: RepeatCount) -> RepeatCount
     n.saturating_mul(m)
 }
 
-/// Returns the command that puts a character in place of so many clusters, by the key that is read: a plain character. Esc
-/// does nothing, and another key is unknown.
+/// Returns the command that puts a character in place of so many clusters, by the key that is read:
+/// a plain character. Esc does nothing, and another key is unknown.
 pub fn replaced_by(n: RepeatCount, key: KeyEvent) -> Cmd
     ensures { command_of result ≡ replaced_by n key }
 {

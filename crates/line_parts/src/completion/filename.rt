@@ -65,10 +65,11 @@ impl<L: Lister> FilenameCompleter<L> {
         FilenameCompleter { lister }
     }
 
-    /// Returns the byte offset where the path begins that ends at the cursor, at byte `pos` of `line`, and its candidates:
-    /// the names in its folder that start with the path's last part, in the order of their bytes. A path in open quotes
-    /// begins after the quote. A candidate inserts the folder's text and the name, escaped as these quotes ask for it, and a
-    /// `/` after the name of a folder.
+    /// Returns the byte offset where the path begins that ends at the cursor, at byte `pos` of
+    /// `line`, and its candidates: the names in its folder that start with the path's last part, in
+    /// the order of their bytes. A path in open quotes begins after the quote. A candidate inserts
+    /// the folder's text and the name, escaped as these quotes ask for it, and a `/` after the name
+    /// of a folder.
     ///
     /// # Errors
     /// `Io`, only where the lister is not sure, and `Memory`.
@@ -160,7 +161,8 @@ impl<L: Lister> Completer for FilenameCompleter<L> {
     /// cursor then stands after that text.
     ///
     /// # Errors
-    /// `Memory`, where an allocation fails. The changes then still record the line, or there are none.
+    /// `Memory`, where an allocation fails. The changes then still record the line, or there are
+    /// none.
     fn update(
         &self,
         line: &mut LineBuffer,

@@ -36,7 +36,8 @@ fn common_start<'a>(one: &'a str, other: &str) -> &'a str
     &one[..one.len() - rest.len()]
 }
 
-// Returns the whole characters with which a text and the replacements of candidates begin in common.
+// Returns the whole characters with which a text and the replacements of candidates begin in
+// common.
 fn common_with<'a, C: Candidate>(first: &'a str, others: &[C]) -> &'a str
     ensures { IsLongestCommon (first.now ∷ map (λ c. C.replacement_text c) others.now) result.now }
 {

@@ -40,7 +40,8 @@ fn behind_single(text: &str) -> Option<&str>
     None
 }
 
-// Returns what stands after the first piece of a text: a character, an escaped one, or what stands in quotes with these.
+// Returns what stands after the first piece of a text: a character, an escaped one, or what stands
+// in quotes with these.
 fn behind_piece(first: char, more: &str) -> Option<&str>
     ensures closed { MatchOption result (IsUnpaired (first ∷ chars more.now))
         (λ rest. BeginsClosed (first ∷ chars more.now) (chars rest.now)) }

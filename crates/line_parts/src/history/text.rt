@@ -87,7 +87,8 @@ fn write_out<T: Write>(text: &mut Vec<u8>, out: &mut T) -> Result<()>
 }
 
 impl FileHistory {
-    // Writes the lines from an index on after a text that waits to be written, and leaves the last of them waiting.
+    // Writes the lines from an index on after a text that waits to be written, and leaves the last
+    // of them waiting.
     #[tactic(auto, using(crate::proofs::SaveLemmas::written_none, crate::proofs::SaveLemmas::written_more, crate::proofs::SaveLemmas::written_out, crate::proofs::SaveLemmas::written_all))]
     fn write_lines<T: Write>(
         &self,
@@ -133,15 +134,16 @@ impl FileHistory {
         Ok(())
     }
 
-    /// Writes the header line `#V2` and all lines to `out`, with a line feed after each, and flushes it. In a line a
-    /// backslash is written as `\\`, and a newline as `\n`. With `append` only the new lines are written, those that
-    /// were added since the last save or load that succeeded, and no header. After that no line counts as new.
+    /// Writes the header line `#V2` and all lines to `out`, with a line feed after each, and
+    /// flushes it. In a line a backslash is written as `\\`, and a newline as `\n`. With `append`
+    /// only the new lines are written, those that were added since the last save or load that
+    /// succeeded, and no header. After that no line counts as new.
     ///
     /// A line that ends in a carriage return is loaded without it: `save_v3_to` keeps it.
     ///
     /// # Errors
-    /// `Io`, where the writer fails, and `Memory`. The history and its new lines then stay as they were, and `out` may
-    /// have a part of the text.
+    /// `Io`, where the writer fails, and `Memory`. The history and its new lines then stay as they
+    /// were, and `out` may have a part of the text.
     pub fn save_to<T: Write>(&mut self, out: &mut T, append: bool) -> Result<()>
         ensures { Saves V2 append result
             (T.contents out.old) (T.contents out.new) self.old self.new }
@@ -149,14 +151,15 @@ impl FileHistory {
         self.save_by(Escapes::V2, out, append)
     }
 
-    /// Writes what `save_to` does, with the header line `#V3` and a carriage return as `\r`, so that each line is loaded
-    /// as it was.
+    /// Writes what `save_to` does, with the header line `#V3` and a carriage return as `\r`, so
+    /// that each line is loaded as it was.
     ///
-    /// A text keeps one form: what is appended after `#V2` is read with the escapes of `#V2`, and the other way round.
+    /// A text keeps one form: what is appended after `#V2` is read with the escapes of `#V2`, and
+    /// the other way round.
     ///
     /// # Errors
-    /// `Io`, where the writer fails, and `Memory`. The history and its new lines then stay as they were, and `out` may
-    /// have a part of the text.
+    /// `Io`, where the writer fails, and `Memory`. The history and its new lines then stay as they
+    /// were, and `out` may have a part of the text.
     pub fn save_v3_to<T: Write>(&mut self, out: &mut T, append: bool) -> Result<()>
         ensures { Saves V3 append result
             (T.contents out.old) (T.contents out.new) self.old self.new }
@@ -275,9 +278,9 @@ impl FileHistory {
     ///
     /// # Errors
     /// `Io`, where the reader fails, by its own error; where what a line says is not UTF-8, of kind
-    /// `InvalidData`; and where there are more lines than a `u64` can count, of kind `FileTooLarge`.
-    /// `Memory`, also where the reader reports the want of it. The lines before the fault are then
-    /// there, and count as new.
+    /// `InvalidData`; and where there are more lines than a `u64` can count, of kind
+    /// `FileTooLarge`. `Memory`, also where the reader reports the want of it. The lines before the
+    /// fault are then there, and count as new.
     #[tactic(auto, using(crate::proofs::LoadLemmas::nothing_read, crate::proofs::LoadLemmas::adds_some_none, crate::proofs::LoadLemmas::reader_known))]
     pub fn load_from<T: Read + Drop>(&mut self, reader: T) -> Result<bool>
         ensures loads { LoadsWhole result (T.remaining reader) self.old self.new }

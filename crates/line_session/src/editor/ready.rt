@@ -13,8 +13,9 @@ use line_parts::{
 use std::io::{Read, Write};
 
 impl<O: Write + Drop, H: Helper + Drop> Editor<O, H, FileHistory> {
-    /// Reads lines from `reader` to its end, and adds each to the history, as `FileHistory::load_from` does. Returns what that
-    /// answers; None while a line goes on, and nothing is read then.
+    /// Reads lines from `reader` to its end, and adds each to the history, as
+    /// `FileHistory::load_from` does. Returns what that answers; None while a line goes on, and
+    /// nothing is read then.
     ///
     /// # Errors
     /// Those of `FileHistory::load_from`. The lines before the fault are then there.
@@ -32,7 +33,8 @@ impl<O: Write + Drop, H: Helper + Drop> Editor<O, H, FileHistory> {
         Ok(Some(taken))
     }
 
-    /// Writes the history to `out`, as `FileHistory::save_v3_to` does. Returns whether it was written: not while a line goes on.
+    /// Writes the history to `out`, as `FileHistory::save_v3_to` does. Returns whether it was
+    /// written: not while a line goes on.
     ///
     /// # Errors
     /// Those of `FileHistory::save_v3_to`.

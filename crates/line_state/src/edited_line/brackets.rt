@@ -11,8 +11,8 @@ use line_parts::brackets::{bracket_at, find_match};
 
 #[tactic(auto, using(crate::proofs::EditedLemmas::kept, crate::proofs::EditedLemmas::first_kept, crate::proofs::EditedLemmas::first_stays))]
 impl EditedLine {
-    /// Moves the cursor to the bracket that matches the one at the cursor: to the start of the cluster that holds it. Returns
-    /// whether there is such a bracket.
+    /// Moves the cursor to the bracket that matches the one at the cursor: to the start of the
+    /// cluster that holds it. Returns whether there is such a bracket.
     pub fn move_to_bracket(&mut self) -> bool
         ensures { GoesTo result self.old self.new (bracket_place self.old.line) }
     {
@@ -25,8 +25,8 @@ impl EditedLine {
         true
     }
 
-    /// Returns the range of the bracket at the cursor, the one that matches it and what stands between the two, in bytes.
-    /// `None` where no bracket stands at the cursor, or it has no match.
+    /// Returns the range of the bracket at the cursor, the one that matches it and what stands
+    /// between the two, in bytes. `None` where no bracket stands at the cursor, or it has no match.
     pub fn bracket_range(&self) -> Option<(usize, usize)>
         ensures { IsRangeIfAny result self.now.line (bracket_range self.now.line) }
     {
@@ -38,10 +38,12 @@ impl EditedLine {
         Some((at, pos + 1))
     }
 
-    /// Replaces that range by the empty text, and puts the cursor at its start. Returns whether there is such a range.
+    /// Replaces that range by the empty text, and puts the cursor at its start. Returns whether
+    /// there is such a range.
     ///
     /// # Errors
-    /// `OutOfMemory` alone. The line may then be any text with its cursor on a boundary, and there are no changes to undo.
+    /// `OutOfMemory` alone. The line may then be any text with its cursor on a boundary, and there
+    /// are no changes to undo.
     pub fn remove_to_bracket(&mut self) -> Result<bool, OutOfMemory>
         ensures { let range = bracket_range self.old.line in FindsToEdit result self.old self.new
             (with_nothing_for range self.old) (is_some range) }
@@ -54,7 +56,8 @@ impl EditedLine {
     }
 }
 
-// Returns the place of the bracket that matches the one at a place, if a bracket stands there and has a match.
+// Returns the place of the bracket that matches the one at a place, if a bracket stands there and
+// has a match.
 fn matching_bracket(text: &str, place: usize) -> Option<usize>
     ensures place { result ≡ matching_bracket text.now place }
     ensures here { IfSome result (λ at. HasOneByteAt text.now place) }

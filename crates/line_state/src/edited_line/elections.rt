@@ -10,11 +10,12 @@ use line_parts::Completer;
 
 #[tactic(auto, using(crate::proofs::EditedLemmas::told_or_gone, crate::proofs::EditedLemmas::first_told, crate::proofs::EditedLemmas::first_or_gone))]
 impl EditedLine {
-    /// Puts the text of an elected candidate in place of what stands from byte `start` to the cursor, or does with it what the
-    /// completer does by itself.
+    /// Puts the text of an elected candidate in place of what stands from byte `start` to the
+    /// cursor, or does with it what the completer does by itself.
     ///
     /// # Errors
-    /// `Io`, only where the completer is not sure, and `Memory`. The changes then still record the line, or there are none.
+    /// `Io`, only where the completer is not sure, and `Memory`. The changes then still record the
+    /// line, or there are none.
     pub fn elect<C: Completer>(&mut self, completer: &C, start: usize, elected: &str) -> Result<()>
         requires before { start ≤ self.old.line.cursor }
         requires boundary { IsCharBoundary self.old.line.text start }

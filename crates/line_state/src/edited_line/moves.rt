@@ -63,39 +63,42 @@ impl EditedLine {
         self.line.move_buffer_end()
     }
 
-    /// Moves the cursor back to the start of the `n`-th word before it. Returns whether there is such a place.
+    /// Moves the cursor back to the start of the `n`-th word before it. Returns whether there is
+    /// such a place.
     pub fn move_to_prev_word(&mut self, word: Word, n: RepeatCount) -> bool
         ensures { GoesTo result self.old self.new (word_back word self.old.line n) }
     {
         self.line.move_to_prev_word(word, n)
     }
 
-    /// Moves the cursor on by `n` words: to the start of one, to before its end or to after it. Returns whether there is
-    /// such a place.
+    /// Moves the cursor on by `n` words: to the start of one, to before its end or to after it.
+    /// Returns whether there is such a place.
     pub fn move_to_next_word(&mut self, at: At, word: Word, n: RepeatCount) -> bool
         ensures { GoesTo result self.old self.new (word_on at word self.old.line n) }
     {
         self.line.move_to_next_word(at, word, n)
     }
 
-    /// Moves the cursor to the `n`-th place that the search leads to, or to the last where there are fewer. Returns whether
-    /// there is such a place.
+    /// Moves the cursor to the `n`-th place that the search leads to, or to the last where there
+    /// are fewer. Returns whether there is such a place.
     pub fn move_to(&mut self, search: CharSearch, n: RepeatCount) -> bool
         ensures { GoesTo result self.old self.new (search_place search self.old.line n) }
     {
         self.line.move_to(search, n)
     }
 
-    /// Moves the cursor to its column in the line `n` above, one for `n` = 0, or in the first. Returns false on the first
-    /// line. Columns are counted as the layout has them, with the prompt before the first line.
+    /// Moves the cursor to its column in the line `n` above, one for `n` = 0, or in the first.
+    /// Returns false on the first line. Columns are counted as the layout has them, with the prompt
+    /// before the first line.
     pub fn move_to_line_up(&mut self, n: RepeatCount, layout: &Layout) -> bool
         ensures { GoesTo result self.old self.new (up_by layout.now self.old.line n) }
     {
         self.line.move_to_line_up(n, layout)
     }
 
-    /// Moves the cursor to its column in the line `n` below, one for `n` = 0, or in the last. Returns false on the last
-    /// line. Columns are counted as the layout has them, with the prompt before the first line.
+    /// Moves the cursor to its column in the line `n` below, one for `n` = 0, or in the last.
+    /// Returns false on the last line. Columns are counted as the layout has them, with the prompt
+    /// before the first line.
     pub fn move_to_line_down(&mut self, n: RepeatCount, layout: &Layout) -> bool
         ensures { GoesTo result self.old self.new (down_by layout.now self.old.line n) }
     {
@@ -103,8 +106,8 @@ impl EditedLine {
     }
 
     #[tactic(auto, using(crate::proofs::EditedLemmas::first_by_text))]
-    /// Moves the cursor by a movement, with columns measured by `layout`. Returns false only where the cursor
-    /// stayed.
+    /// Moves the cursor by a movement, with columns measured by `layout`. Returns false only where
+    /// the cursor stayed.
     pub fn move_by(&mut self, movement: &Movement, layout: &Layout) -> bool
         ensures line { self.new
             ≡ record self.old { line = moved layout.now movement.now self.old.line } }
@@ -129,7 +132,8 @@ impl EditedLine {
         }
     }
 
-    // Moves the cursor to the first character of its line, or from white space there on to the next word.
+    // Moves the cursor to the first character of its line, or from white space there on to the next
+    // word.
     fn move_to_first_print(&mut self) -> bool
         ensures line { self.new ≡ record self.old {
           line = to_first_print (with_cursor self.old.line (start_of_line self.old.line));

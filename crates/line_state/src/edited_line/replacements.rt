@@ -12,10 +12,12 @@ use unicode_segmentation::UnicodeSegmentation;
 
 #[tactic(auto, using(crate::proofs::EditedLemmas::kept, crate::proofs::EditedLemmas::first_kept, crate::proofs::EditedLemmas::first_stays))]
 impl EditedLine {
-    /// Puts a character in the place of the cluster at the cursor, which then stands after it. Returns whether there is one.
+    /// Puts a character in the place of the cluster at the cursor, which then stands after it.
+    /// Returns whether there is one.
     ///
     /// # Errors
-    /// `OutOfMemory` alone. The line may then be any text with its cursor on a boundary, and there are no changes to undo.
+    /// `OutOfMemory` alone. The line may then be any text with its cursor on a boundary, and there
+    /// are no changes to undo.
     pub fn overwrite(&mut self, c: char) -> Result<bool, OutOfMemory>
         ensures { let stop = place_on self.old.line 1 in
             Reports result self.old self.new (with_overwritten c stop self.old) (is_some stop) }
@@ -30,11 +32,13 @@ impl EditedLine {
         Ok(true)
     }
 
-    /// Puts a character in the place of each of `n` clusters from the cursor on, or of as many as there are, in one group
-    /// of changes, with the cursor on the last. Returns whether there is one.
+    /// Puts a character in the place of each of `n` clusters from the cursor on, or of as many as
+    /// there are, in one group of changes, with the cursor on the last. Returns whether there is
+    /// one.
     ///
     /// # Errors
-    /// `OutOfMemory` alone. The line may then be any text with its cursor on a boundary, and there are no changes to undo.
+    /// `OutOfMemory` alone. The line may then be any text with its cursor on a boundary, and there
+    /// are no changes to undo.
     pub fn replace_char(&mut self, c: char, n: RepeatCount) -> Result<bool, OutOfMemory>
         ensures { Reports result self.old self.new (with_char_for c n self.old)
             (is_some (place_on self.old.line n)) }
@@ -45,7 +49,8 @@ impl EditedLine {
         Ok(replaced)
     }
 
-    // Puts a character in the place of each of `n` clusters from the cursor on, with the cursor on the last.
+    // Puts a character in the place of each of `n` clusters from the cursor on, with the cursor on
+    // the last.
     fn replace_clusters(&mut self, c: char, n: RepeatCount) -> Result<bool, OutOfMemory>
         ensures { let count = min n (length (clusters (after self.old.line))) in
             let stop = place_on self.old.line n in
@@ -69,7 +74,8 @@ impl EditedLine {
         rest.graphemes(true).take(n as usize).count() as RepeatCount
     }
 
-    // Takes away `n` clusters from the cursor on, or as many as there are. Returns whether there is one.
+    // Takes away `n` clusters from the cursor on, or as many as there are. Returns whether there is
+    // one.
     fn delete(&mut self, n: RepeatCount) -> Result<bool, OutOfMemory>
         ensures { let stop = place_on self.old.line n in FindsToEdit result self.old self.new
             (without_range (from_cursor self.old.line stop) self.old) (is_some stop) }
@@ -77,11 +83,12 @@ impl EditedLine {
         self.line.discard(n, &mut self.changes)
     }
 
-    /// Exchanges the clusters before and at the cursor, at the end of the text the last two, in one group of changes, with
-    /// the cursor after both. Returns whether there are two.
+    /// Exchanges the clusters before and at the cursor, at the end of the text the last two, in one
+    /// group of changes, with the cursor after both. Returns whether there are two.
     ///
     /// # Errors
-    /// `OutOfMemory` alone. The line may then be any text with its cursor on a boundary, and there are no changes to undo.
+    /// `OutOfMemory` alone. The line may then be any text with its cursor on a boundary, and there
+    /// are no changes to undo.
     pub fn transpose_chars(&mut self) -> Result<bool, OutOfMemory>
         ensures { Reports result self.old self.new (with_chars_swapped self.old)
             (has_two_chars self.old.line) }
@@ -101,11 +108,13 @@ impl EditedLine {
         self.line.transpose_chars(&mut self.changes)
     }
 
-    /// Exchanges the word that ends `n` words on from the cursor with the `n`-th before it, in one group of changes, with the
-    /// cursor after both. Returns whether these are two words; if not, the cursor alone moves: to after the first.
+    /// Exchanges the word that ends `n` words on from the cursor with the `n`-th before it, in one
+    /// group of changes, with the cursor after both. Returns whether these are two words; if not,
+    /// the cursor alone moves: to after the first.
     ///
     /// # Errors
-    /// `OutOfMemory` alone. The line may then be any text with its cursor on a boundary, and there are no changes to undo.
+    /// `OutOfMemory` alone. The line may then be any text with its cursor on a boundary, and there
+    /// are no changes to undo.
     pub fn transpose_words(&mut self, n: RepeatCount) -> Result<bool, OutOfMemory>
         ensures reports { FindsToEdit result self.old self.new (with_words_swapped n self.old)
             (are_apart (words_beside self.old.line n)) }
@@ -127,10 +136,12 @@ impl EditedLine {
         self.line.transpose_words(n, &mut self.changes)
     }
 
-    /// Changes the case of the next word, in one group of changes, with the cursor after it. Returns whether there is one.
+    /// Changes the case of the next word, in one group of changes, with the cursor after it.
+    /// Returns whether there is one.
     ///
     /// # Errors
-    /// `OutOfMemory` alone. The line may then be any text with its cursor on a boundary, and there are no changes to undo.
+    /// `OutOfMemory` alone. The line may then be any text with its cursor on a boundary, and there
+    /// are no changes to undo.
     pub fn edit_word(&mut self, action: WordAction) -> Result<bool, OutOfMemory>
         ensures { Reports result self.old self.new (with_next_word action self.old)
             (is_some (next_alphanumeric self.old.line)) }
@@ -150,11 +161,12 @@ impl EditedLine {
         self.line.edit_word(action, &mut self.changes)
     }
 
-    /// Puts `amount` spaces before the lines of a movement, or with `dedent` takes away up to as many white-space characters
-    /// at their front. The cursor stays with its character.
+    /// Puts `amount` spaces before the lines of a movement, or with `dedent` takes away up to as
+    /// many white-space characters at their front. The cursor stays with its character.
     ///
     /// # Errors
-    /// `OutOfMemory` alone. The line may then be any text with its cursor on a boundary, and there are no changes to undo.
+    /// `OutOfMemory` alone. The line may then be any text with its cursor on a boundary, and there
+    /// are no changes to undo.
     pub fn indent(
         &mut self,
         movement: &Movement,

@@ -12,7 +12,8 @@ impl EditedLine {
     /// Inserts a text at the cursor, which stays before it.
     ///
     /// # Errors
-    /// `OutOfMemory` alone. The line may then be any text with its cursor on a boundary, and there are no changes to undo.
+    /// `OutOfMemory` alone. The line may then be any text with its cursor on a boundary, and there
+    /// are no changes to undo.
     pub fn insert_text(&mut self, text: &str) -> Result<(), OutOfMemory>
         ensures { EditsTo result self.old self.new (with_text text.now self.old) }
     {
@@ -20,10 +21,12 @@ impl EditedLine {
             .insert_str(self.line.pos(), text, &mut self.changes)
     }
 
-    /// Inserts `n` copies of a text at the cursor, which then stands after them. Returns whether there was a text.
+    /// Inserts `n` copies of a text at the cursor, which then stands after them. Returns whether
+    /// there was a text.
     ///
     /// # Errors
-    /// `OutOfMemory` alone. The line may then be any text with its cursor on a boundary, and there are no changes to undo.
+    /// `OutOfMemory` alone. The line may then be any text with its cursor on a boundary, and there
+    /// are no changes to undo.
     pub fn yank(&mut self, text: &str, n: RepeatCount) -> Result<bool, OutOfMemory>
         ensures { Reports result self.old self.new (with_yanked text.now n self.old)
             (not (length text.now == 0)) }
@@ -32,12 +35,13 @@ impl EditedLine {
         Ok(yanked.is_some())
     }
 
-    /// Puts `n` copies of a text before the cluster at the cursor, or after it, and the cursor after them, or with `step_back`
-    /// one cluster before that. With the empty text only the cursor moves: for `After`, to after the cluster. Returns whether
-    /// there was a text.
+    /// Puts `n` copies of a text before the cluster at the cursor, or after it, and the cursor
+    /// after them, or with `step_back` one cluster before that. With the empty text only the cursor
+    /// moves: for `After`, to after the cluster. Returns whether there was a text.
     ///
     /// # Errors
-    /// `OutOfMemory` alone. The line may then be any text with its cursor on a boundary, and there are no changes to undo.
+    /// `OutOfMemory` alone. The line may then be any text with its cursor on a boundary, and there
+    /// are no changes to undo.
     pub fn yank_at(
         &mut self,
         anchor: Anchor,
@@ -83,11 +87,13 @@ impl EditedLine {
         }
     }
 
-    /// Puts a text in the place of `size` bytes before the cursor, in one group of changes, with the cursor after it.
-    /// Returns whether a text was removed or inserted: none is where fewer bytes stand there, or they would cut a character.
+    /// Puts a text in the place of `size` bytes before the cursor, in one group of changes, with
+    /// the cursor after it. Returns whether a text was removed or inserted: none is where fewer
+    /// bytes stand there, or they would cut a character.
     ///
     /// # Errors
-    /// `OutOfMemory` alone. The line may then be any text with its cursor on a boundary, and there are no changes to undo.
+    /// `OutOfMemory` alone. The line may then be any text with its cursor on a boundary, and there
+    /// are no changes to undo.
     pub fn yank_pop(&mut self, size: usize, text: &str) -> Result<bool, OutOfMemory>
         ensures reports { FindsToEdit result self.old self.new (with_popped size text.now self.old)
             (pops_text self.old.line size text.now) }
@@ -101,7 +107,8 @@ impl EditedLine {
         Ok(popped)
     }
 
-    // Returns whether `size` bytes can be removed before the cursor, and these or the text are not empty.
+    // Returns whether `size` bytes can be removed before the cursor, and these or the text are not
+    // empty.
     fn pops_text(&self, size: usize, text: &str) -> bool
         ensures { result ≡ pops_text self.now.line size text.now }
     {
@@ -132,7 +139,8 @@ impl EditedLine {
     /// Puts a text in the place of the whole line, and the cursor at byte `pos` of it.
     ///
     /// # Errors
-    /// `OutOfMemory` alone. The line may then be any text with its cursor on a boundary, and there are no changes to undo.
+    /// `OutOfMemory` alone. The line may then be any text with its cursor on a boundary, and there
+    /// are no changes to undo.
     pub fn update(&mut self, text: &str, pos: usize) -> Result<(), OutOfMemory>
         requires { IsCharBoundary text.now pos }
         ensures { EditsTo result self.old self.new (with_update_to text.now pos self.old) }
@@ -140,10 +148,12 @@ impl EditedLine {
         self.line.update(text, pos, &mut self.changes)
     }
 
-    /// Puts a text in the place of the whole line, in one group of changes, and the cursor at byte `pos` of it.
+    /// Puts a text in the place of the whole line, in one group of changes, and the cursor at byte
+    /// `pos` of it.
     ///
     /// # Errors
-    /// `OutOfMemory` alone. The line may then be any text with its cursor on a boundary, and there are no changes to undo.
+    /// `OutOfMemory` alone. The line may then be any text with its cursor on a boundary, and there
+    /// are no changes to undo.
     pub fn update_in_group(&mut self, text: &str, pos: usize) -> Result<(), OutOfMemory>
         requires { IsCharBoundary text.now pos }
         ensures { EditsTo result self.old self.new

@@ -9,7 +9,8 @@ use crate::view::View;
 use line_buffer::{Layout, Position};
 use line_config::Prompt;
 
-/// A line as it is drawn: its layout, what is known of the screen, and whether characters are highlighted.
+/// A line as it is drawn: its layout, what is known of the screen, and whether characters are
+/// highlighted.
 #[derive(Drop)]
 pub struct DrawnLine {
     // Where the own prompt ends.
@@ -19,8 +20,8 @@ pub struct DrawnLine {
     pub(crate) in_place: bool,
     // Whether the kept cursor was last drawn as that of a line after the own prompt.
     pub(crate) at_cursor: bool,
-    // Whether what is shown of the line is known to be printable ASCII and newlines, and how many characters at its
-    // end are known to be printable then.
+    // Whether what is shown of the line is known to be printable ASCII and newlines, and how many
+    // characters at its end are known to be printable then.
     pub(crate) shows_plain: bool,
     pub(crate) printable_at_end: usize,
     // Whether characters are highlighted that the next drawing has to show without their colors.
@@ -28,7 +29,8 @@ pub struct DrawnLine {
 }
 
 impl<'out, 'prompt, W: Renderer, P: Prompt> View<'out, 'prompt, W, P> {
-    /// Returns the drawn line, and the renderer and the prompt that were lent to the view. Nothing is drawn.
+    /// Returns the drawn line, and the renderer and the prompt that were lent to the view. Nothing
+    /// is drawn.
     pub fn release(self) -> (DrawnLine, &'out mut W, &'prompt P)
         ensures display { ⟦<Self as Drawn>⟧.display self.entry ≡ display_on (kept_of_drawn result.0)
             (W.surface result.1.now) (W.screen result.1.now) (P.raw_text result.2.now) }
@@ -43,7 +45,8 @@ impl<'out, 'prompt, W: Renderer, P: Prompt> View<'out, 'prompt, W, P> {
         (drawn, out, prompt)
     }
 
-    /// Returns the view of a drawn line, on the renderer and after the prompt that it was drawn with. Nothing is drawn.
+    /// Returns the view of a drawn line, on the renderer and after the prompt that it was drawn
+    /// with. Nothing is drawn.
     pub fn resume(drawn: DrawnLine, out: &'out mut W, prompt: &'prompt P) -> Self
         requires { IsLeftOn (kept_of_drawn drawn)
             (W.surface out.old) (W.screen out.old) (P.raw_text prompt.now) }
