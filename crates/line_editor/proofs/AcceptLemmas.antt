@@ -9,11 +9,11 @@ use Rattle.line_config.specs.declared.config.EditMode.TheVariants.{Emacs, Vi}
 use Rattle.line_config.specs.declared.error.ReadlineError.{ReadlineError}
 use Rattle.line_config.specs.declared.error.ReadlineError.TheVariants.{Eof}
 use Rattle.line_keys.specs.Command.{Command, accept_line, accept_or_insert_line, end_of_file}
-use Rattle.line_keys.specs.Display.{Display, KeepsPrompt, Surface}
-use Rattle.line_keys.specs.Draft.{Draft, KeepsText, hint_shown, in_group, out_of_group, unhinted}
-use Rattle.line_keys.specs.Drawing.{Does, DoesAsking, Drawing, Drew, DrewLine, Undrawn, drawn_in_full, nothing, text_same, with_hint, with_text}
-use Rattle.line_keys.specs.Frame.{FailsByParty, Frame}
-use Rattle.line_keys.specs.ShownLine.{LosesHint, ShowsNoHint}
+use Rattle.line_keys.specs.Model.Display.{Display, KeepsPrompt, Surface}
+use Rattle.line_keys.specs.Model.Draft.{Draft, KeepsText, hint_shown, in_group, out_of_group, unhinted}
+use Rattle.line_keys.specs.Model.Drawing.{Does, DoesAsking, Drawing, Drew, DrewLine, Undrawn, drawn_in_full, nothing, text_same, with_hint, with_text}
+use Rattle.line_keys.specs.Model.Frame.{FailsByParty, Frame}
+use Rattle.line_keys.specs.Model.ShownLine.{LosesHint, ShowsNoHint}
 use Rattle.line_keys.specs.declared.editor_state.EditorState.{Ghosts}
 use Rattle.line_parts.specs.Asks.{Asks, Sureness, for_hint, for_verdict, is_sure, nobody}
 use Rattle.line_parts.specs.Environment.{Environment, verdict_on}

@@ -4,13 +4,13 @@ use Rattle.std.specs.Prelude.{if◌then◌else◌}
 use Rattle.line_config.specs.declared.error.ReadlineError.{ReadlineError}
 use Rattle.line_buffer.specs.Line.{Line, inserted_at_cursor, without}
 use Rattle.line_buffer.specs.Undo.{first_text}
-use Rattle.line_keys.specs.Display.{Display, HasCursorAt, lit_after}
-use Rattle.line_keys.specs.Draft.{Draft, KeepsText, hinted, hint_shown, start_text}
-use Rattle.line_keys.specs.Drawing.{ChangedPlainly, Does, DoesInTwo, Drew, DrewCursor, DrewLine, DrewNothing, KeepsDraftOnErr, Refreshes, ShowsChange, ShowsEdit, Undrawn, cursor, drawn_if, drawn_in_full, drawn_plainly, edit_drawn, text_same, with_hint}
-use Rattle.line_keys.specs.Fault.{IsEarlierHint}
-use Rattle.line_keys.specs.Frame.{FailsByParty}
-use Rattle.line_keys.specs.Plainly.{KilledPlainly, TypedPlainly, kills_plainly, types_plainly}
-use Rattle.line_keys.specs.ShownLine.{HasCursorDrawn, HasRightLayout}
+use Rattle.line_keys.specs.Model.Display.{Display, HasCursorAt, lit_after}
+use Rattle.line_keys.specs.Model.Draft.{Draft, KeepsText, hinted, hint_shown, start_text}
+use Rattle.line_keys.specs.Model.Drawing.{ChangedPlainly, Does, DoesInTwo, Drew, DrewCursor, DrewLine, DrewNothing, KeepsDraftOnErr, Refreshes, ShowsChange, ShowsEdit, Undrawn, cursor, drawn_if, drawn_in_full, drawn_plainly, edit_drawn, text_same, with_hint}
+use Rattle.line_keys.specs.Model.Fault.{IsEarlierHint}
+use Rattle.line_keys.specs.Model.Frame.{FailsByParty}
+use Rattle.line_keys.specs.Model.Plainly.{KilledPlainly, TypedPlainly, kills_plainly, types_plainly}
+use Rattle.line_keys.specs.Model.ShownLine.{HasCursorDrawn, HasRightLayout}
 use Rattle.line_keys.specs.declared.editor_state.EditorState.{Ghosts}
 use Rattle.line_parts.specs.Asks.{Asks, for_hint, is_sure, nobody}
 use Rattle.line_parts.specs.Environment.{Environment}

@@ -1,7 +1,7 @@
 -- Facts on edits.
 use Rattle.std.proofs.Common.{◌≡◌, ℕ, true, false, cond, List, Option, Some, None, is_some, option_map, unwrap_or, refl, ap}
 use Rattle.line_buffer.specs.Line.{Line, moved_to}
-use Rattle.line_keys.specs.Draft.{Draft, in_group, out_of_group}
+use Rattle.line_keys.specs.Model.Draft.{Draft, in_group, out_of_group}
 use Rattle.line_parts.specs.Environment.{Environment, verdict_on}
 use Rattle.line_parts.specs.Hint.{suggestion_of}
 use Rattle.line_parts.specs.Verdict.{Verdict, valid}

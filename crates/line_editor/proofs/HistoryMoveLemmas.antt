@@ -10,10 +10,10 @@ use Rattle.std.proofs.lemmas.Str.{IsCharBoundary-from_take}
 use Rattle.line_config.specs.declared.error.ReadlineError.{ReadlineError}
 use Rattle.line_config.specs.Error.{Rose, is_fault, is_io, is_memory}
 use Rattle.line_config.specs.declared.error.ReadlineError.TheVariants.{Eof, Interrupted, Io, Memory}
-use Rattle.line_keys.specs.Draft.{Draft, KeepsText, start_text}
-use Rattle.line_keys.specs.Fault.{FaultLeft}
-use Rattle.line_keys.specs.Drawing.{Does, DoesAsking, DoesInTwo, DrewNothing, Drawing, Paints, Undrawn, drawn_if, nothing, text_same, with_hint}
-use Rattle.line_keys.specs.Frame.{FailsByParty, FailsByRenderer, Frame}
+use Rattle.line_keys.specs.Model.Draft.{Draft, KeepsText, start_text}
+use Rattle.line_keys.specs.Model.Fault.{FaultLeft}
+use Rattle.line_keys.specs.Model.Drawing.{Does, DoesAsking, DoesInTwo, DrewNothing, Drawing, Paints, Undrawn, drawn_if, nothing, text_same, with_hint}
+use Rattle.line_keys.specs.Model.Frame.{FailsByParty, FailsByRenderer, Frame}
 use Rattle.line_keys.specs.declared.editor_state.EditorState.{Ghosts}
 use Rattle.line_parts.specs.Environment.{Environment}
 use Rattle.line_parts.specs.Asks.{Asks, for_hint, for_line, for_look_up, nobody}
@@ -35,7 +35,7 @@ use Rattle.line_editor.proofs.AskedLemmas.{does_more, sure_hint}
 use Rattle.line_editor.proofs.DoneLemmas.{Redrawn, does_after, edit_reported, undrawn_twice}
 use Rattle.line_editor.proofs.FaultLemmas.{fault_exact, fault_other, fault_stays, fault_wider, same_draft}
 use Rattle.line_editor.proofs.DrawnLemmas.{drawn_stays, frame_then, prompt_same}
-use Rattle.line_keys.specs.Display.{Display}
+use Rattle.line_keys.specs.Model.Display.{Display}
 
 -- all stays
 frame_stays : {X : Type 0} (e : Ghosts X) (old : X) → Frame e old old

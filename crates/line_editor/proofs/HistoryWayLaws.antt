@@ -13,7 +13,7 @@ use Rattle.line_parts.specs.Hint.{Suggestion}
 use Rattle.line_parts.specs.Verdict.{Verdict, incomplete, invalid, valid}
 use Rattle.line_state.specs.Edited.{Edited, bracket_range, with_nothing_for, with_text, yanked_at}
 use Rattle.line_keys.specs.Command.{Command, accept_line, accept_or_insert_line, beginning_of_history, capitalize_word, complete_hint, downcase_word, end_of_history, history_search_backward, history_search_forward, insert, kill, kill_to_bracket, line_down_or_next_history, line_up_or_previous_history, next_history, overwrite, previous_history, replace, replace_char, replace_to_bracket, transpose_chars, transpose_words, undo, upcase_word, yank, yank_pop}
-use Rattle.line_keys.specs.Draft.{Draft, in_group, out_of_group, unhinted}
+use Rattle.line_keys.specs.Model.Draft.{Draft, in_group, out_of_group, unhinted}
 use Rattle.line_keys.specs.declared.cmd.Anchor.{Anchor}
 use Rattle.line_editor.specs.Accept.{replied, reply_to, unhinted_by, validated}
 use Rattle.line_editor.specs.declared.command.Reply.{Reply}

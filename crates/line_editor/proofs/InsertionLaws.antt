@@ -21,7 +21,7 @@ use Rattle.line_config.specs.declared.config.EditMode.TheVariants.{Emacs, Vi}
 use Rattle.line_parts.specs.Environment.{Environment}
 use Rattle.line_keys.specs.Command.{Command, move, noop, self_insert, undo}
 use Rattle.line_keys.specs.Count.{is_count_before}
-use Rattle.line_keys.specs.Draft.{Draft}
+use Rattle.line_keys.specs.Model.Draft.{Draft}
 use Rattle.line_keys.specs.Item.{Item, key}
 use Rattle.line_keys.specs.Key.{event}
 use Rattle.line_keys.specs.Table.{KeyEntry, gives, row_of, stands_for}

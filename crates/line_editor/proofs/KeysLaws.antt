@@ -2,7 +2,7 @@
 use Rattle.std.proofs.Common.{arith, ◌≡◌, ℕ, ◌+◌, ◌≤◌, cond, List, [], ◌∷◌, ◌++◌, map, ◌∙◌, ap}
 use Rattle.std.proofs.lemmas.List.Sums.{sum_by-append}
 use Rattle.line_parts.specs.Environment.{Environment}
-use Rattle.line_keys.specs.Draft.{Draft}
+use Rattle.line_keys.specs.Model.Draft.{Draft}
 use Rattle.line_keys.specs.Item.{Item, key}
 use Rattle.line_keys.specs.declared.editor_state.EditorState as editors
 use Rattle.line_keys.specs.declared.raw_reader.RawReader as readers

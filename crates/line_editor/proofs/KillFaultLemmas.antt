@@ -7,8 +7,8 @@ use Rattle.line_buffer.specs.declared.layout.Position.{Position}
 use Rattle.line_buffer.specs.declared.movement.Movement.{Movement}
 use Rattle.line_config.specs.Error.{is_memory}
 use Rattle.line_config.specs.declared.error.ReadlineError.{ReadlineError}
-use Rattle.line_keys.specs.Draft.{Draft, start_text}
-use Rattle.line_keys.specs.Drawing.{Does, Drawing, asked_by, nothing, with_hint}
+use Rattle.line_keys.specs.Model.Draft.{Draft, start_text}
+use Rattle.line_keys.specs.Model.Drawing.{Does, Drawing, asked_by, nothing, with_hint}
 use Rattle.line_keys.specs.declared.editor_state.EditorState.{Ghosts}
 use Rattle.line_parts.specs.Asks.{Sureness, is_sure, nobody}
 use Rattle.line_parts.specs.Environment.{Environment}

@@ -7,13 +7,13 @@ use Rattle.line_buffer.specs.declared.movement.Movement.{Movement}
 use Rattle.line_config.specs.declared.error.ReadlineError.{ReadlineError}
 use Rattle.line_keys.specs.declared.cmd.Anchor.{Anchor}
 use Rattle.line_buffer.specs.declared.layout.Position.{Position}
-use Rattle.line_keys.specs.Display.{Display, KeepsPrompt, ShowsInFull, columns_back, corner, lit_after}
-use Rattle.line_keys.specs.Draft.{Draft, KeepsText, hint_shown}
-use Rattle.line_keys.specs.Fault.{FaultLeft, IsEarlierHint}
-use Rattle.line_keys.specs.Drawing.{Does, DoesInTwo, Drawing, Drew, DrewLine, DrewNothing, DrewPart, ShowsChange, asked_by, change_drawn, drawn_if, drawn_in_full, drawn_plainly, edit_drawn, nothing, text_same, with_hint}
-use Rattle.line_keys.specs.Plainly.{KilledPlainly, TypedPlainly}
-use Rattle.line_keys.specs.Frame.{FailsByParty, Frame}
-use Rattle.line_keys.specs.ShownLine.{Redraws}
+use Rattle.line_keys.specs.Model.Display.{Display, KeepsPrompt, ShowsInFull, columns_back, corner, lit_after}
+use Rattle.line_keys.specs.Model.Draft.{Draft, KeepsText, hint_shown}
+use Rattle.line_keys.specs.Model.Fault.{FaultLeft, IsEarlierHint}
+use Rattle.line_keys.specs.Model.Drawing.{Does, DoesInTwo, Drawing, Drew, DrewLine, DrewNothing, DrewPart, ShowsChange, asked_by, change_drawn, drawn_if, drawn_in_full, drawn_plainly, edit_drawn, nothing, text_same, with_hint}
+use Rattle.line_keys.specs.Model.Plainly.{KilledPlainly, TypedPlainly}
+use Rattle.line_keys.specs.Model.Frame.{FailsByParty, Frame}
+use Rattle.line_keys.specs.Model.ShownLine.{Redraws}
 use Rattle.line_keys.specs.declared.editor_state.EditorState.{Ghosts}
 use Rattle.line_parts.specs.Asks.{for_hint, nobody}
 use Rattle.line_parts.specs.Environment.{Environment}

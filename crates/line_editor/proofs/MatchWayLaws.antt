@@ -10,7 +10,7 @@ use Rattle.line_buffer.specs.Laws.{IsRing}
 use Rattle.line_buffer.specs.Line.{moved_to}
 use Rattle.line_buffer.specs.declared.kill_ring.Mode.{Mode}
 use Rattle.line_buffer.specs.declared.kill_ring.Mode.TheVariants.{Append}
-use Rattle.line_keys.specs.Draft.{Draft}
+use Rattle.line_keys.specs.Model.Draft.{Draft}
 use Rattle.line_parts.proofs.MatchLawLemmas.{match_is_mutual, match_within}
 use Rattle.line_parts.specs.BracketMatch.{matching_bracket}
 use Rattle.line_parts.specs.Environment.{Environment}

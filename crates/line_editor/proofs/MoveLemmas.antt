@@ -9,12 +9,12 @@ use Rattle.line_buffer.specs.declared.layout.Position.{Position}
 use Rattle.line_buffer.specs.declared.movement.At.TheVariants.{Start}
 use Rattle.line_buffer.specs.declared.movement.Word.TheVariants.{Big}
 use Rattle.line_config.specs.declared.error.ReadlineError.{ReadlineError}
-use Rattle.line_keys.specs.Draft.{Draft, start_text}
-use Rattle.line_keys.specs.Display.{Display, HasCursorAt, ShowsText, cursor_position}
-use Rattle.line_keys.specs.Drawing.{CursorWay, DoesInTwo, Drawing, DrawsCursor, DrewCursor, MovesTo, PutsCursorAt, Undrawn, cursor_over, cursor_stayed, drawn_if, text_same}
-use Rattle.line_keys.specs.Fault.{as_halfway}
-use Rattle.line_keys.specs.Frame.{FailsByRenderer, Frame}
-use Rattle.line_keys.specs.ShownLine.{HasCursorDrawn}
+use Rattle.line_keys.specs.Model.Draft.{Draft, start_text}
+use Rattle.line_keys.specs.Model.Display.{Display, HasCursorAt, ShowsText, cursor_position}
+use Rattle.line_keys.specs.Model.Drawing.{CursorWay, DoesInTwo, Drawing, DrawsCursor, DrewCursor, MovesTo, PutsCursorAt, Undrawn, cursor_over, cursor_stayed, drawn_if, text_same}
+use Rattle.line_keys.specs.Model.Fault.{as_halfway}
+use Rattle.line_keys.specs.Model.Frame.{FailsByRenderer, Frame}
+use Rattle.line_keys.specs.Model.ShownLine.{HasCursorDrawn}
 use Rattle.line_keys.specs.declared.editor_state.EditorState.{Ghosts}
 use Rattle.line_parts.specs.Asks.{Asks, nobody}
 use Rattle.line_parts.specs.Environment.{Environment}

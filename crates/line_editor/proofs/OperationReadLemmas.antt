@@ -6,7 +6,7 @@ use Rattle.line_config.specs.declared.config.EditMode.TheVariants.{Vi}
 use Rattle.line_config.specs.declared.error.ReadlineError.{ReadlineError}
 use Rattle.line_keys.specs.Command.{command_of}
 use Rattle.line_keys.specs.Count.{begins_count}
-use Rattle.line_keys.specs.Draft.{Draft}
+use Rattle.line_keys.specs.Model.Draft.{Draft}
 use Rattle.line_keys.specs.Item.{Item, ReadFault, key}
 use Rattle.line_keys.specs.Motion.{Motion, motion_of, multiplied}
 use Rattle.line_keys.specs.declared.count.Count.{Count}

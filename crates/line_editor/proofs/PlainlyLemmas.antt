@@ -15,12 +15,12 @@ use Rattle.line_buffer.specs.Undo.{first_text}
 use Rattle.line_buffer.specs.declared.layout.Layout.{Layout}
 use Rattle.line_buffer.specs.declared.layout.Position.{Position}
 use Rattle.line_buffer.specs.declared.movement.Movement.{Movement}
-use Rattle.line_keys.specs.Display.{Display, IsRight, ShowsText, columns_back, columns_on, ending_at, lit_after}
-use Rattle.line_keys.specs.Draft.{Draft, hint_shown, hinted, start_text}
-use Rattle.line_keys.specs.Drawing.{ChangedPlainly, Does, Drew, DrewLine, DrewPart, KeepsDraftOnErr, ShowsEnd, Undrawn, asked_by, change_drawn, drawn_in_full, drawn_plainly}
-use Rattle.line_keys.specs.Frame.{FailsByParty, Frame}
-use Rattle.line_keys.specs.Plainly.{KilledPlainly, TypedPlainly, gives_end, is_bare_line, leaves_bare, takes_char}
-use Rattle.line_keys.specs.ShownLine.{HasRightLayout, KeepsDrawn}
+use Rattle.line_keys.specs.Model.Display.{Display, IsRight, ShowsText, columns_back, columns_on, ending_at, lit_after}
+use Rattle.line_keys.specs.Model.Draft.{Draft, hint_shown, hinted, start_text}
+use Rattle.line_keys.specs.Model.Drawing.{ChangedPlainly, Does, Drew, DrewLine, DrewPart, KeepsDraftOnErr, ShowsEnd, Undrawn, asked_by, change_drawn, drawn_in_full, drawn_plainly}
+use Rattle.line_keys.specs.Model.Frame.{FailsByParty, Frame}
+use Rattle.line_keys.specs.Model.Plainly.{KilledPlainly, TypedPlainly, gives_end, is_bare_line, leaves_bare, takes_char}
+use Rattle.line_keys.specs.Model.ShownLine.{HasRightLayout, KeepsDrawn}
 use Rattle.line_keys.specs.declared.editor_state.EditorState.{Ghosts}
 use Rattle.line_parts.specs.Asks.{for_hint}
 use Rattle.line_parts.specs.Environment.{Environment}

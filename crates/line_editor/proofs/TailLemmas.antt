@@ -8,7 +8,7 @@ use Rattle.line_buffer.specs.declared.movement.Movement.{Movement}
 use Rattle.line_buffer.specs.declared.movement.Movement.TheVariants.{ViCharSearch}
 use Rattle.line_parts.specs.Environment.{Environment}
 use Rattle.line_keys.specs.Command.{Command, noop, unknown}
-use Rattle.line_keys.specs.Draft.{Draft}
+use Rattle.line_keys.specs.Model.Draft.{Draft}
 use Rattle.line_keys.specs.Item.{Item, key}
 use Rattle.line_keys.specs.Motion.{Motion, covers_last, covers_search, search_to}
 use Rattle.line_keys.specs.Table.{Meaning, gives, has_second, pastes, replaces_char, searches, searches_again, unlisted}

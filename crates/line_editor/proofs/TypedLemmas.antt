@@ -10,7 +10,7 @@ use Rattle.line_config.specs.declared.error.ReadlineError.{ReadlineError}
 use Rattle.line_config.specs.declared.error.ReadlineError.TheVariants.{Eof, Interrupted, Io, Memory}
 use Rattle.line_keys.specs.Command.{Command, command_of, self_insert}
 use Rattle.line_keys.specs.Count.{begins_count}
-use Rattle.line_keys.specs.Draft.{Draft}
+use Rattle.line_keys.specs.Model.Draft.{Draft}
 use Rattle.line_keys.specs.Item.{Item, ReadFault, key}
 use Rattle.line_keys.specs.Key.{event}
 use Rattle.line_keys.specs.Redo.{bound_anew}

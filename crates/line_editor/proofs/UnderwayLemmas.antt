@@ -7,10 +7,10 @@ use Rattle.line_config.specs.declared.error.ReadlineError.{ReadlineError}
 use Rattle.line_config.specs.declared.error.ReadlineError.TheVariants.{Eof, Interrupted}
 use Rattle.line_parts.specs.Asks.{for_all, for_hint, is_sure}
 use Rattle.line_parts.specs.Environment.{Environment}
-use Rattle.line_keys.specs.Display.{Display, IsRight, Surface}
-use Rattle.line_keys.specs.Draft.{Draft, hinted, start_text}
-use Rattle.line_keys.specs.Drawing.{Refreshes, with_hint}
-use Rattle.line_keys.specs.ShownLine.{Redraws}
+use Rattle.line_keys.specs.Model.Display.{Display, IsRight, Surface}
+use Rattle.line_keys.specs.Model.Draft.{Draft, hinted, start_text}
+use Rattle.line_keys.specs.Model.Drawing.{Refreshes, with_hint}
+use Rattle.line_keys.specs.Model.ShownLine.{Redraws}
 use Rattle.line_keys.specs.declared.editor_state.EditorState as editors
 use Rattle.line_keys.specs.declared.raw_reader.RawReader as readers
 use Rattle.line_editor.specs.Binding.{Bound, all_sure}

@@ -5,7 +5,7 @@ use Rattle.std.proofs.Math.Seq.{take-length}
 use Rattle.line_buffer.specs.Changes.{Entry}
 use Rattle.line_buffer.specs.Line.{Line}
 use Rattle.line_buffer.specs.Undo.{all_taken_back, is_change, is_step, newest_steps, steps_len}
-use Rattle.line_keys.specs.Draft.{Draft}
+use Rattle.line_keys.specs.Model.Draft.{Draft}
 use Rattle.line_parts.specs.Environment.{Environment}
 use Rattle.line_state.specs.Edited.{Edited, undone}
 use Rattle.line_editor.specs.Editor.{edited_of}

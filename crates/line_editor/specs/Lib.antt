@@ -33,5 +33,5 @@ pub mod Step
 pub mod Laws
 pub use Rattle.line_buffer.specs.Line
 pub use Rattle.line_keys.specs.Command
-pub use Rattle.line_keys.specs.Draft
+pub use Rattle.line_keys.specs.Model.Draft
 pub use Rattle.line_keys.specs.Item

@@ -1,10 +1,10 @@
 -- What is left once the screen was resized.
 use Rattle.std.specs.Prelude.{◌≡◌, ◌≤◌, ℕ, Result, OnOk, OnErr}
 use Rattle.line_config.specs.declared.error.ReadlineError.{ReadlineError}
-use Rattle.line_keys.specs.Display.{corner}
-use Rattle.line_keys.specs.Draft.{hint_shown}
-use Rattle.line_keys.specs.Frame.{FailsByRenderer}
-use Rattle.line_keys.specs.ShownLine.{HasRightLayout, Redraws, Shows}
+use Rattle.line_keys.specs.Model.Display.{corner}
+use Rattle.line_keys.specs.Model.Draft.{hint_shown}
+use Rattle.line_keys.specs.Model.Frame.{FailsByRenderer}
+use Rattle.line_keys.specs.Model.ShownLine.{HasRightLayout, Redraws, Shows}
 use Rattle.line_keys.specs.declared.editor_state.EditorState.{Ghosts}
 use Rattle.line_state.specs.ScreenState.{ResizesTo}
 

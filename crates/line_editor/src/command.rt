@@ -7,7 +7,7 @@ ghost use Rattle.line_editor.specs.InputState.{input_of};
 ghost use Rattle.line_editor.specs.Outcomes.{DoesCommand, DoesCommandBy, Executes};
 ghost use Rattle.line_keys.specs.Command as commands;
 ghost use Rattle.line_keys.specs.Command.{command_of};
-ghost use Rattle.line_keys.specs.Drawing.{Does};
+ghost use Rattle.line_keys.specs.Model.Drawing.{Does};
 ghost use Rattle.line_parts.specs.Verdict.{verdict_of};
 
 use crate::binding::ConditionalEventHandler;

@@ -2,7 +2,7 @@
 use Rattle.std.specs.Prelude.{◌≡◌, ℕ, Option}
 use Rattle.line_config.specs.declared.config.EditMode.TheVariants.{Vi}
 use Rattle.line_keys.specs.Command.{move_to_bracket}
-use Rattle.line_keys.specs.Draft.{Draft}
+use Rattle.line_keys.specs.Model.Draft.{Draft}
 use Rattle.line_keys.specs.Key.{event}
 use Rattle.line_keys.specs.Meaning.{gives, stays}
 use Rattle.line_keys.specs.Motion.{bracket_motion, motion_of}

@@ -5,7 +5,7 @@ use Rattle.line_buffer.specs.declared.movement.Word.TheVariants.{Big}
 use Rattle.line_config.specs.declared.config.EditMode.{EditMode}
 use Rattle.line_config.specs.declared.config.EditMode.TheVariants.{Emacs, Vi}
 use Rattle.line_keys.specs.Command.{Command, accept_or_insert_line, end_of_file, forward_search_history, kill, line_down_or_next_history, line_up_or_previous_history, move, noop, quoted_insert, reverse_search_history, transpose_chars, undo, unknown, yank}
-use Rattle.line_keys.specs.Draft.{Draft}
+use Rattle.line_keys.specs.Model.Draft.{Draft}
 use Rattle.line_keys.specs.Key.{bits_of}
 use Rattle.line_keys.specs.Meaning.{Row, Rows, always, by_sign, chars_back, chars_on, first_for, kills, meaning_row, moves, on_text, pastes, row, row_at, to_start, when, words_back}
 use Rattle.line_keys.specs.declared.cmd.Anchor.TheVariants.{Before}

@@ -4,7 +4,7 @@ use Rattle.line_buffer.specs.declared.movement.CharSearch.TheVariants.{Backward,
 use Rattle.line_buffer.specs.declared.movement.Movement.TheVariants.{BeginningOfLine, EndOfLine}
 use Rattle.line_buffer.specs.declared.movement.Word.TheVariants as words
 use Rattle.line_keys.specs.Command.{Command, abort, beginning_of_history, capitalize_word, clear_screen, complete, complete_backward, complete_hint, downcase_word, end_of_history, kill, move, next_history, previous_history, self_insert, transpose_words, undo, unknown, upcase_word, yank_pop}
-use Rattle.line_keys.specs.Draft.{Draft}
+use Rattle.line_keys.specs.Model.Draft.{Draft}
 use Rattle.line_keys.specs.Key.{bits_of}
 use Rattle.line_keys.specs.Meaning.{Row, Rows, always, at_hint, by_sign, chars_back, chars_on, first_for, has_second, kills, meaning_row, moves, row, row_at, search, to_end, to_start, when, words_back, words_on}
 use Rattle.line_keys.specs.declared.count.Count.{Count}

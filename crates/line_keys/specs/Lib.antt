@@ -11,13 +11,7 @@ pub mod ViTable
 pub mod Motion
 pub mod Table
 pub mod Row
-pub mod Draft
-pub mod Fault
-pub mod Display
-pub mod Frame
-pub mod ShownLine
-pub mod Plainly
-pub mod Drawing
+pub mod Model
 pub use Rattle.line_parts.specs.Shown
 pub use Rattle.line_parts.specs.Context
 pub use Rattle.line_parts.specs.Environment

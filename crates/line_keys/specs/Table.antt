@@ -4,7 +4,7 @@ use Rattle.std.specs.Option.{option_or}
 use Rattle.line_config.specs.declared.config.EditMode.{EditMode}
 use Rattle.line_config.specs.declared.config.EditMode.TheVariants.{Emacs, Vi}
 use Rattle.line_keys.specs.CommonTable.{common_row}
-use Rattle.line_keys.specs.Draft.{Draft}
+use Rattle.line_keys.specs.Model.Draft.{Draft}
 use Rattle.line_keys.specs.EmacsTable.{emacs_row}
 use Rattle.line_keys.specs.Key.{bits_of, event}
 use Rattle.line_keys.specs.ViTable.{vi_row}

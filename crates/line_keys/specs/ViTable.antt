@@ -10,7 +10,7 @@ use Rattle.line_buffer.specs.declared.movement.Movement.TheVariants.{BackwardCha
 use Rattle.line_buffer.specs.declared.movement.Word.TheVariants.{Big}
 use Rattle.line_buffer.specs.declared.movement.Word.TheVariants as words
 use Rattle.line_keys.specs.Command.{Command, abort, clear_screen, complete, complete_backward, complete_hint, forward_search_history, kill, line_down_or_next_history, line_up_or_previous_history, move, move_to_bracket, next_history, noop, overwrite, previous_history, replace, reverse_search_history, self_insert, undo, yank}
-use Rattle.line_keys.specs.Draft.{Draft}
+use Rattle.line_keys.specs.Model.Draft.{Draft}
 use Rattle.line_keys.specs.Key.{bits_of}
 use Rattle.line_keys.specs.Meaning.{Row, Rows, again, always, at_hint, beginning_group, ending_group, entering, first_for, kills, meaning_row, moves, operates, replaces_char, row, row_at, searches, searches_again, stays, when, any_line}
 use Rattle.line_keys.specs.declared.cmd.Anchor.TheVariants.{After, Before}

@@ -1,7 +1,7 @@
 //! What contracts see of an editor.
 ghost use Rattle.std.specs.Prelude.{ℕ};
-ghost use Rattle.line_keys.specs.Display.{Display};
-ghost use Rattle.line_keys.specs.Draft.{Draft};
+ghost use Rattle.line_keys.specs.Model.Display.{Display};
+ghost use Rattle.line_keys.specs.Model.Draft.{Draft};
 ghost use Rattle.line_parts.specs.Asks.{Sureness};
 ghost use Rattle.line_parts.specs.Environment.{Environment};
 

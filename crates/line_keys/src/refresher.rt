@@ -2,8 +2,8 @@
 ghost use Rattle.std.specs.Prelude.{◌≡◌, ℕ, ◌↔◌, List, IfOk, OnOk, OnErr, IsTrue, is_some, option_map, option_and_then, length, string_bytes, IsCharBoundary};
 ghost use Rattle.line_buffer.specs.Changes.{last_insert_of};
 ghost use Rattle.line_config.specs.Error.{MemoryOnly};
-ghost use Rattle.line_keys.specs.Draft.{hinted, unhinted, in_group, out_of_group, without_changes};
-ghost use Rattle.line_keys.specs.Drawing.{Refreshes, Undrawn, behind_prompt, with_hint, with_text};
+ghost use Rattle.line_keys.specs.Model.Draft.{hinted, unhinted, in_group, out_of_group, without_changes};
+ghost use Rattle.line_keys.specs.Model.Drawing.{Refreshes, Undrawn, behind_prompt, with_hint, with_text};
 
 use crate::editor_state::EditorState;
 use line_config::Result;

@@ -1,6 +1,6 @@
 -- What stays of a screen in memory, and what is cleared.
 use Rattle.std.specs.Prelude.{◌≡◌, ◌++◌, ℕ, List, true, [], None}
-use Rattle.line_keys.specs.Display.{Screen, corner}
+use Rattle.line_keys.specs.Model.Display.{Screen, corner}
 use Rattle.line_state.specs.declared.screen_state.ScreenState as screens
 
 -- a screen that is known to show nothing, with the cursor at the first place

@@ -1,7 +1,7 @@
 -- Where a text ends on a screen, measured cluster by cluster.
 use Rattle.std.specs.Prelude.{◌≡◌, ◌<◌, ℕ, zero, suc, ◌+◌, min, eqb, ◌==◌, nat_le, Bool, true, false, List, [], ◌∷◌, chars, if◌then◌else◌}
 use Rattle.std.specs.List.{fold, ends_with, list_all}
-use Rattle.line_keys.specs.Display.{next_row}
+use Rattle.line_keys.specs.Model.Display.{next_row}
 use Rattle.unicode_segmentation.specs.Grapheme.{graphemes}
 use Rattle.unicode_width.specs.Width.{str_width}
 use Rattle.line_buffer.specs.Printable.{is_plain}

@@ -17,7 +17,7 @@ use Rattle.line_buffer.specs.declared.layout.Position.{Position}
 use Rattle.line_buffer.proofs.PlainClusterLemmas.{clusters-plain, singly}
 use Rattle.line_buffer.specs.Cluster.{PartsClusters}
 use Rattle.line_buffer.specs.Printable.{is_plain, is_printable}
-use Rattle.line_keys.specs.Display.{columns_back, next_column}
+use Rattle.line_keys.specs.Model.Display.{columns_back, next_column}
 use Rattle.line_state.proofs.PlainTextLemmas.{all_both, all_parts, measured_back, plain_char, plain_text, taken_between}
 use Rattle.line_screen.specs.Measure.{PlainTextEndsAt, ends_row, columns_of, start_below, advanced, after_cluster, wrapped, measured, columns_after}
 

@@ -4,7 +4,7 @@ ghost use Rattle.std.specs.Prelude.{◌≡◌, ◌≤◌, true, IfSome, take, Is
 ghost use Rattle.std.specs.List.{fold, list_all};
 ghost use Rattle.line_buffer.specs.Cluster.{PartsClusters};
 ghost use Rattle.line_buffer.specs.Printable.{is_plain};
-ghost use Rattle.line_keys.specs.Display.{cursor_position};
+ghost use Rattle.line_keys.specs.Model.Display.{cursor_position};
 ghost use Rattle.unicode_segmentation.specs.Grapheme.{graphemes};
 ghost use Rattle.line_screen.specs.Measure.{advanced, after_cluster, columns_after, measured, start_below, wrapped};
 ghost use Rattle.line_screen.specs.MeasureLaws.{after_char};

@@ -250,7 +250,7 @@ fn owned(alloc: Global, hint: Option<&str>) -> Result<Option<String>>
 impl<R: RawReader> ScreenState for Plain<R> {
     ghost use Rattle.std.specs.Prelude.{false, true, option_map, string_bytes};
     ghost use Rattle.line_buffer.specs.declared.layout.GraphemeClusterMode.TheVariants.{Unicode};
-    ghost use Rattle.line_keys.specs.Display.{uncounted};
+    ghost use Rattle.line_keys.specs.Model.Display.{uncounted};
     ghost use Rattle.line_screen.specs.Measure.{measured};
 
     ghost surface = { λ p. record {

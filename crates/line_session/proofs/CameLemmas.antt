@@ -7,7 +7,7 @@ use Rattle.line_config.specs.Settings.{Settings}
 use Rattle.line_config.specs.Error.{FaultsOnly}
 use Rattle.line_config.specs.declared.error.ReadlineError.{ReadlineError}
 use Rattle.line_keys.specs.Command.{Command}
-use Rattle.line_keys.specs.Display.{corner}
+use Rattle.line_keys.specs.Model.Display.{corner}
 use Rattle.line_keys.specs.declared.keys.KeyEvent.{KeyEvent}
 use Rattle.line_parts.specs.Environment.{Environment}
 use Rattle.line_parts.specs.History.{added}

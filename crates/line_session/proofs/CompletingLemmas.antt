@@ -9,7 +9,7 @@ use Rattle.std.specs.declared.vec.Vec.{Vec}
 use Rattle.line_config.specs.Settings.{Settings}
 use Rattle.line_config.specs.declared.config.CompletionType.{CompletionType}
 use Rattle.line_config.specs.declared.config.CompletionType.TheVariants as types
-use Rattle.line_keys.specs.Draft.{Draft, hinted}
+use Rattle.line_keys.specs.Model.Draft.{Draft, hinted}
 use Rattle.line_parts.specs.Candidate.{BeginsIn, Offer, offer_of, pair_offer}
 use Rattle.line_parts.specs.Environment.{Environment}
 use Rattle.line_parts.specs.Prefix.{IsCommonStart}

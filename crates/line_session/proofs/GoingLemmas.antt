@@ -4,10 +4,10 @@ use Rattle.line_buffer.specs.KillRing.{Ring, with_last}
 use Rattle.line_buffer.specs.KillRing as rings
 use Rattle.line_config.specs.Settings.{Settings}
 use Rattle.line_keys.specs.Command.{Command}
-use Rattle.line_keys.specs.Display.{Display}
-use Rattle.line_keys.specs.Draft.{Draft}
-use Rattle.line_keys.specs.Drawing.{Drew}
-use Rattle.line_keys.specs.Frame.{Frame}
+use Rattle.line_keys.specs.Model.Display.{Display}
+use Rattle.line_keys.specs.Model.Draft.{Draft}
+use Rattle.line_keys.specs.Model.Drawing.{Drew}
+use Rattle.line_keys.specs.Model.Frame.{Frame}
 use Rattle.line_keys.specs.Item.{Item, key, paste}
 use Rattle.line_keys.specs.declared.editor_state.EditorState as editors
 use Rattle.line_keys.specs.declared.raw_reader.RawReader as readers

@@ -3,8 +3,8 @@ use Rattle.std.proofs.Common.{◌≡◌, ℕ, Bool, List, [], ◌∷◌, ◌++�
 use Rattle.std.specs.Prelude.{IfSome}
 use Rattle.std.specs.Borrow.{MutBor}
 use Rattle.line_config.specs.Settings.{Settings}
-use Rattle.line_keys.specs.Display.{Display, Screen, Surface}
-use Rattle.line_keys.specs.Draft.{Draft}
+use Rattle.line_keys.specs.Model.Display.{Display, Screen, Surface}
+use Rattle.line_keys.specs.Model.Draft.{Draft}
 use Rattle.line_parts.specs.Environment.{Environment}
 use Rattle.line_parts.specs.Helped.{completion_by, environment_by, hint_by, lights_by, update_by, verdict_by}
 use Rattle.line_parts.specs.Hint.{Suggestion}

@@ -1,7 +1,7 @@
 -- Facts on a line that is shown as it is in a mode.
 use Rattle.std.proofs.Common.{◌≡◌, true, false, List, refl, sym, subst}
-use Rattle.line_keys.specs.Display.{Display}
-use Rattle.line_keys.specs.Draft.{Draft}
+use Rattle.line_keys.specs.Model.Display.{Display}
+use Rattle.line_keys.specs.Model.Draft.{Draft}
 use Rattle.line_keys.specs.Item.{Item}
 use Rattle.line_parts.specs.Environment.{Environment}
 use Rattle.line_session.specs.Kept.{IsShownBy, IsShownByMode, IsShownWithItems}

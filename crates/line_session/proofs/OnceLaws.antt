@@ -3,7 +3,7 @@ use Rattle.std.proofs.Common.{◌≡◌, ◌≢◌, ◌∙◌, ◌⊎◌, inl, i
 use Rattle.std.specs.Prelude.{◌==◌, MatchBool}
 use Rattle.line_config.specs.Settings.{Settings}
 use Rattle.line_keys.specs.Command.{Command}
-use Rattle.line_keys.specs.Draft.{Draft, hinted}
+use Rattle.line_keys.specs.Model.Draft.{Draft, hinted}
 use Rattle.line_keys.specs.Item.{Item, key, paste}
 use Rattle.line_keys.specs.declared.keys.KeyEvent.{KeyEvent}
 use Rattle.line_parts.specs.Candidate.{Completion, pair_offer}

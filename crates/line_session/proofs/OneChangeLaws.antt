@@ -7,7 +7,7 @@ use Rattle.std.specs.List.{replace_range, slice_range}
 use Rattle.line_buffer.specs.Changes.{Changes, Entry, adds_end, begun, ended, replaced}
 use Rattle.line_buffer.specs.Line.{Line}
 use Rattle.line_buffer.proofs.GroupLemmas.{closed_group}
-use Rattle.line_keys.specs.Draft.{Draft, KeepsLine, hinted}
+use Rattle.line_keys.specs.Model.Draft.{Draft, KeepsLine, hinted}
 use Rattle.line_parts.specs.Candidate.{BeginsIn}
 use Rattle.line_parts.specs.Environment.{Environment}
 use Rattle.line_parts.specs.Written.{Written, put_to_cursor, written_as}

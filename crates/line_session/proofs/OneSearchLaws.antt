@@ -8,7 +8,7 @@ use Rattle.line_buffer.specs.Character.{is_one_alphanumeric}
 use Rattle.line_buffer.specs.Line.{Line, with_cursor}
 use Rattle.line_buffer.specs.Undo.{all_taken_back, newest_steps}
 use Rattle.line_buffer.proofs.GroupLemmas.{closed_group}
-use Rattle.line_keys.specs.Draft.{Draft, hinted}
+use Rattle.line_keys.specs.Model.Draft.{Draft, hinted}
 use Rattle.line_parts.specs.Environment.{Environment}
 use Rattle.line_editor.specs.Completing.{taken_back_once}
 use Rattle.line_editor.specs.HistoryMoves.{at_index, boundary_or_end, is_character_boundary, is_own_line, put_alone, text_grows, text_put}

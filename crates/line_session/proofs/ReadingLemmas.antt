@@ -9,7 +9,7 @@ use Rattle.line_config.specs.Error.{UnlessFault}
 use Rattle.line_config.specs.Settings.{Settings}
 use Rattle.line_config.specs.declared.error.ReadlineError.{ReadlineError}
 use Rattle.line_keys.specs.Command.{Command}
-use Rattle.line_keys.specs.Display.{corner}
+use Rattle.line_keys.specs.Model.Display.{corner}
 use Rattle.line_keys.specs.Item.{Item}
 use Rattle.line_keys.specs.declared.keys.KeyEvent.{KeyEvent}
 use Rattle.line_parts.specs.Environment.{Environment}

@@ -3,7 +3,7 @@ use Rattle.std.proofs.Common.{◌≡◌, ◌∙◌, ℕ, true, Bool, List, Optio
 use Rattle.std.specs.Option.{IfSome}
 use Rattle.line_buffer.specs.Line.{Line}
 use Rattle.line_buffer.specs.declared.layout.Position.{Position}
-use Rattle.line_keys.specs.Display.{Display, Screen, ShowsInFull, Surface, corner, cursor_position}
+use Rattle.line_keys.specs.Model.Display.{Display, Screen, ShowsInFull, Surface, corner, cursor_position}
 use Rattle.line_keys.specs.Item.{Item}
 use Rattle.line_parts.specs.Environment.{Environment}
 use Rattle.line_screen.specs.Measure.{measured}

@@ -8,10 +8,10 @@ use Rattle.line_config.specs.Settings.{Settings}
 use Rattle.line_config.specs.declared.error.ReadlineError.{ReadlineError}
 use Rattle.line_config.specs.declared.error.ReadlineError.TheVariants.{Eof}
 use Rattle.line_keys.specs.Command.{Command, command_of}
-use Rattle.line_keys.specs.Display.{Display, IsRight, Surface}
-use Rattle.line_keys.specs.Draft.{Draft, hint_shown, hinted}
-use Rattle.line_keys.specs.Drawing.{Drew, DrewLine}
-use Rattle.line_keys.specs.Frame.{Frame}
+use Rattle.line_keys.specs.Model.Display.{Display, IsRight, Surface}
+use Rattle.line_keys.specs.Model.Draft.{Draft, hint_shown, hinted}
+use Rattle.line_keys.specs.Model.Drawing.{Drew, DrewLine}
+use Rattle.line_keys.specs.Model.Frame.{Frame}
 use Rattle.line_keys.specs.Item.{Item}
 use Rattle.line_keys.specs.declared.cmd.Cmd.{Cmd}
 use Rattle.line_keys.specs.declared.editor_state.EditorState as editors

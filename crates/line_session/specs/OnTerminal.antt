@@ -1,10 +1,10 @@
 -- What a terminal shows of a line between two calls.
 use Rattle.std.specs.Prelude.{◌≡◌, ℕ, false, true, List, [], Option, Some}
 use Rattle.line_buffer.specs.Line.{Line}
-use Rattle.line_keys.specs.Display.{Screen, corner, cursor_position}
-use Rattle.line_keys.specs.Draft.{Draft, hint_shown}
+use Rattle.line_keys.specs.Model.Display.{Screen, corner, cursor_position}
+use Rattle.line_keys.specs.Model.Draft.{Draft, hint_shown}
 use Rattle.line_keys.specs.Item.{Item}
-use Rattle.line_keys.specs.ShownLine.{MayTrail}
+use Rattle.line_keys.specs.Model.ShownLine.{MayTrail}
 use Rattle.line_parts.specs.Environment.{Environment}
 use Rattle.line_screen.specs.Measure.{measured}
 use Rattle.line_term.specs.Shown.{EndsInRows, IsOnTerminal}

@@ -1,6 +1,6 @@
 -- A completion is one change.
 use Rattle.std.specs.Prelude.{◌≡◌, ◌++◌, ℕ, Bool, false, List, take, drop, None, IsCharBoundary}
-use Rattle.line_keys.specs.Draft.{Draft, KeepsLine}
+use Rattle.line_keys.specs.Model.Draft.{Draft, KeepsLine}
 use Rattle.line_parts.specs.Candidate.{BeginsIn}
 use Rattle.line_parts.specs.Environment.{Environment}
 use Rattle.line_parts.specs.Written.{Written}

@@ -5,8 +5,8 @@ use Rattle.line_buffer.specs.declared.layout.GraphemeClusterMode.TheVariants.{Un
 use Rattle.line_buffer.specs.Line.{Line}
 use Rattle.line_config.specs.Settings.{Settings}
 use Rattle.line_config.specs.declared.error.ReadlineError.{ReadlineError}
-use Rattle.line_keys.specs.Display.{corner}
-use Rattle.line_keys.specs.Draft.{Draft, empty_draft}
+use Rattle.line_keys.specs.Model.Display.{corner}
+use Rattle.line_keys.specs.Model.Draft.{Draft, empty_draft}
 use Rattle.line_keys.specs.Item.{Item}
 use Rattle.line_parts.specs.Environment.{Environment}
 use Rattle.line_parts.specs.History.{HistoryRules, added}

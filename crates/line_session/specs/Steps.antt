@@ -3,7 +3,7 @@
 use Rattle.std.specs.Prelude.{◌≡◌, ℕ, ◌-◌, ◌==◌, ◌&&◌, nat_le, Bool, true, false, if◌then◌else◌, [], ◌∷◌, ◌++◌, List, Option, Some, None}
 use Rattle.line_config.specs.Settings.{Settings}
 use Rattle.line_keys.specs.Command.{Command, insert, self_insert, unknown}
-use Rattle.line_keys.specs.Draft.{Draft, hinted}
+use Rattle.line_keys.specs.Model.Draft.{Draft, hinted}
 use Rattle.line_keys.specs.Item.{Item, key, paste}
 use Rattle.line_keys.specs.Key.{bits_of}
 use Rattle.line_keys.specs.declared.keys.KeyCode.{KeyCode}

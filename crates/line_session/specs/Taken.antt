@@ -2,10 +2,10 @@
 use Rattle.std.specs.Prelude.{◌≡◌, Bool, true, false, if◌then◌else◌, List, ◌∷◌, Option, Some, None, string_bytes}
 use Rattle.line_buffer.specs.KillRing.{Ring}
 use Rattle.line_config.specs.Settings.{Settings}
-use Rattle.line_keys.specs.Draft.{Draft, hinted}
-use Rattle.line_keys.specs.Frame.{Frame}
+use Rattle.line_keys.specs.Model.Draft.{Draft, hinted}
+use Rattle.line_keys.specs.Model.Frame.{Frame}
 use Rattle.line_keys.specs.Item.{Item, key, paste}
-use Rattle.line_keys.specs.ShownLine.{HasRightLayout, HasShownEnd, IsAtEnd, IsInPlace, ShowsNoHint}
+use Rattle.line_keys.specs.Model.ShownLine.{HasRightLayout, HasShownEnd, IsAtEnd, IsInPlace, ShowsNoHint}
 use Rattle.line_keys.specs.declared.editor_state.EditorState as editors
 use Rattle.line_keys.specs.declared.raw_reader.RawReader as readers
 use Rattle.line_editor.specs.Editor.{Answer, Leaves, ended, interrupted, own_ruler, proceeds, submitted}

@@ -2,7 +2,7 @@
 ghost use Rattle.std.specs.Prelude.{◌≡◌, ◌-◌, ◌==◌, ◌||◌, nat_lt, true, false, [], length, map, option_map, if◌then◌else◌, IfOk, OnOk};
 ghost use Rattle.line_config.specs.Error.{FaultsOnly, MemoryOnly};
 ghost use Rattle.line_editor.specs.Completing.{taken_back_once};
-ghost use Rattle.line_keys.specs.Frame.{Frame};
+ghost use Rattle.line_keys.specs.Model.Frame.{Frame};
 ghost use Rattle.line_parts.specs.Candidate.{offer_of, pair_offer};
 ghost use Rattle.line_session.specs.Completing.{Agree, BeginsCompletion, Elects, GivesUp, GoesOnTo, PutsInCommon, ShowsCandidate, index_before, index_behind};
 ghost use Rattle.line_session.specs.Taken.{IsLineShown, IsShownIn};

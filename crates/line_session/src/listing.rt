@@ -1,7 +1,7 @@
 //! Lists of candidates, in columns and by pages, above the line.
 ghost use Rattle.std.specs.Prelude.{◌≡◌, ◌<◌, None, Some, true, IfOk, OnOk};
 ghost use Rattle.line_config.specs.Error.{FaultsOnly, MemoryOnly};
-ghost use Rattle.line_keys.specs.Frame.{Frame};
+ghost use Rattle.line_keys.specs.Model.Frame.{Frame};
 ghost use Rattle.line_session.specs.Completing.{EndsList, Lists, ListsPage, ListsRows, Replies, reply_by, reply_of, reply_to_more, reply_to_question, unctrled};
 ghost use Rattle.line_session.specs.Taken.{IsShownIn, item_as_it_is};
 

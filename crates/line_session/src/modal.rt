@@ -4,8 +4,8 @@ ghost use Rattle.line_config.specs.Error.{FaultsOnly, MemoryOnly};
 ghost use Rattle.line_editor.specs.Completing.{ComesIn, IsOffered, taken_back_once};
 ghost use Rattle.line_editor.specs.Editor.{edited_of, with_edited};
 ghost use Rattle.line_editor.specs.HistoryMoves.{entry_grows, entry_put, returned_to};
-ghost use Rattle.line_keys.specs.Display.{corner};
-ghost use Rattle.line_keys.specs.Drawing.{DrewNothing, Paints, Undrawn};
+ghost use Rattle.line_keys.specs.Model.Display.{corner};
+ghost use Rattle.line_keys.specs.Model.Drawing.{DrewNothing, Paints, Undrawn};
 ghost use Rattle.line_parts.specs.Candidate.{BeginsIn, offer_of};
 ghost use Rattle.line_parts.specs.History.{Finds, search_in};
 

@@ -3,9 +3,9 @@
 ghost use Rattle.std.specs.Prelude.{◌≡◌, true, false, None, Some, if◌then◌else◌, option_and_then, string_bytes, IfOk, OnOk};
 ghost use Rattle.line_config.specs.Error.{FaultsOnly, MemoryOnly};
 ghost use Rattle.line_keys.specs.Command.{command_of};
-ghost use Rattle.line_keys.specs.Draft.{hinted};
-ghost use Rattle.line_keys.specs.Drawing.{Undrawn};
-ghost use Rattle.line_keys.specs.Frame.{Frame};
+ghost use Rattle.line_keys.specs.Model.Draft.{hinted};
+ghost use Rattle.line_keys.specs.Model.Drawing.{Undrawn};
+ghost use Rattle.line_keys.specs.Model.Frame.{Frame};
 ghost use Rattle.line_parts.specs.History.{search_in};
 ghost use Rattle.line_session.specs.Searching.{Searches, BeginsSearch, IsShownBehind, ShowsSearch, before_search, extended, gone_on, grown_by, led_to, next_place, next_start, place_put, search_cmd, search_value, search_prompt, shortened};
 ghost use Rattle.line_session.specs.Taken.{IsLineShown, IsShownIn};

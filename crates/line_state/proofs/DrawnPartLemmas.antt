@@ -8,7 +8,7 @@ use Rattle.line_buffer.specs.Line.{Line, inserted_at_cursor, is_at_end}
 use Rattle.line_buffer.specs.Printable.{is_plain, is_printable}
 use Rattle.line_buffer.specs.declared.layout.Layout.{Layout}
 use Rattle.line_buffer.specs.declared.layout.Position.{Position}
-use Rattle.line_keys.specs.Display.{Display, IsRight, Measure, Screen, ShowsText, Surface, columns_back, columns_on, ending_at, next_column}
+use Rattle.line_keys.specs.Model.Display.{Display, IsRight, Measure, Screen, ShowsText, Surface, columns_back, columns_on, ending_at, next_column}
 use Rattle.line_state.specs.ScreenState.{EndsBehind, HasRoom, with_shown}
 use Rattle.line_state.specs.Shown.{IsShownPlain, KnowsEnd, StandsAtEnd}
 use Rattle.line_state.proofs.PlainTextLemmas.{all_before, all_both, all_one, all_parts, fewer_at_end, measured_back, measured_on, one_on, plain_char, plain_text, taken_between}

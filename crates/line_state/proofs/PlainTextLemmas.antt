@@ -9,7 +9,7 @@ use Rattle.std.proofs.lemmas.List.{append-nil, append_assoc, drop_all, take-appe
 use Rattle.std.proofs.lemmas.List.Folds.{list_all-append}
 use Rattle.line_buffer.specs.Printable.{is_plain, is_printable}
 use Rattle.line_buffer.specs.declared.layout.Position.{Position}
-use Rattle.line_keys.specs.Display.{columns_back, columns_on, next_column}
+use Rattle.line_keys.specs.Model.Display.{columns_back, columns_on, next_column}
 
 -- what holds of all of a text holds of its parts, and the other way round
 pub all_parts : (p : ℕ → Bool) (xs ys : List ℕ) → list_all p (xs ++ ys) ≡ true → (list_all p xs ≡ true) × (list_all p ys ≡ true)

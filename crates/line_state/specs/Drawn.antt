@@ -7,8 +7,8 @@ use Rattle.line_buffer.specs.declared.layout.Layout.{Layout}
 use Rattle.line_buffer.specs.declared.layout.Position.{Position}
 use Rattle.line_config.specs.Error.{IsOneMore, Rose}
 use Rattle.line_config.specs.declared.error.ReadlineError.{ReadlineError}
-use Rattle.line_keys.specs.Display.{IsFullRedraw, IsRight, ShowsInFull, ShowsText, columns_back, columns_on, corner, ending_at}
-use Rattle.line_keys.specs.Frame.{FailsOnlyIf}
+use Rattle.line_keys.specs.Model.Display.{IsFullRedraw, IsRight, ShowsInFull, ShowsText, columns_back, columns_on, corner, ending_at}
+use Rattle.line_keys.specs.Model.Frame.{FailsOnlyIf}
 use Rattle.line_state.specs.ScreenState.{ResizesTo, WritesAtMost}
 use Rattle.line_state.specs.declared.drawn.Drawn.{Ghosts}
 

@@ -6,5 +6,5 @@ pub mod ScreenState
 pub mod Shown
 pub use Rattle.line_buffer.specs.Line
 pub use Rattle.line_buffer.specs.Changes
-pub use Rattle.line_keys.specs.Display
+pub use Rattle.line_keys.specs.Model.Display
 pub use Rattle.line_config.specs.Error

@@ -7,7 +7,7 @@ use Rattle.line_buffer.specs.declared.layout.Layout.{Layout}
 use Rattle.line_config.specs.Error.{FaultsOnly}
 use Rattle.line_config.specs.Failures.{CountsFailures}
 use Rattle.line_config.specs.declared.error.ReadlineError.{ReadlineError}
-use Rattle.line_keys.specs.Display.{Beside, Surface, Screen, IsFullRedraw, corner}
+use Rattle.line_keys.specs.Model.Display.{Beside, Surface, Screen, IsFullRedraw, corner}
 use Rattle.line_state.specs.declared.screen_state.ScreenState.{Ghosts}
 
 -- what is handed over for a full redraw agrees: the prompt ends at the layout's prompt end, the layout is a full redraw's, the old

@@ -1,7 +1,7 @@
 //! What contracts see of a drawn line.
 ghost use Rattle.std.specs.Prelude.{ℕ};
 ghost use Rattle.std.specs.Borrow.{GName};
-ghost use Rattle.line_keys.specs.Display.{Beside, Display};
+ghost use Rattle.line_keys.specs.Model.Display.{Beside, Display};
 
 /// What contracts see of a drawn line, and no code reads: the display, what the renderer was asked
 /// to do beside drawing, its counts of full redraws and of failures, and what tells the loan of the

@@ -4,7 +4,7 @@ ghost use Rattle.std.specs.List.{list_all};
 ghost use Rattle.line_config.specs.Error.{IsOneMore};
 ghost use Rattle.line_buffer.specs.Printable.{is_plain, is_printable};
 ghost use Rattle.line_buffer.specs.declared.layout.Position.{Position};
-ghost use Rattle.line_keys.specs.Display.{IsFullRedraw, KeepsShown, next_column};
+ghost use Rattle.line_keys.specs.Model.Display.{IsFullRedraw, KeepsShown, next_column};
 ghost use Rattle.line_state.specs.ScreenState.{Agrees, BeepsAtMost, DrawsNoLine, DrawsPart, EndsBehind, HasRoom, HoldsAtMost, Tries, WritesAtMost, shown_by, with_shown};
 
 use crate::screen_state::ScreenState;

@@ -1,6 +1,6 @@
 //! What draws on a screen that can have another size.
 ghost use Rattle.std.specs.Prelude.{◌≡◌, ◌<◌};
-ghost use Rattle.line_keys.specs.Display.{KeepsShown};
+ghost use Rattle.line_keys.specs.Model.Display.{KeepsShown};
 ghost use Rattle.line_state.specs.ScreenState.{ResizesTo};
 
 use crate::renderer::Renderer;

@@ -1,6 +1,6 @@
 //! What contracts see of a renderer.
 ghost use Rattle.std.specs.Prelude.{ℕ};
-ghost use Rattle.line_keys.specs.Display.{Beside, Screen, Surface};
+ghost use Rattle.line_keys.specs.Model.Display.{Beside, Screen, Surface};
 
 /// What contracts see of a renderer, and no code reads: what of its screen no drawing changes, what
 /// the screen shows, what it was asked to do beside drawing the line, and the counts of full

@@ -4,7 +4,7 @@ ghost use Rattle.line_buffer.specs.declared.layout.Position.{Position};
 ghost use Rattle.std.specs.List.{list_all};
 ghost use Rattle.line_buffer.specs.Line.{with_cursor};
 ghost use Rattle.line_buffer.specs.Printable.{is_plain, is_printable};
-ghost use Rattle.line_keys.specs.Display.{GoesToPosition, GoesToShownEnd, HasCursorAt, columns_back, corner, cursor_position, never_drawn};
+ghost use Rattle.line_keys.specs.Model.Display.{GoesToPosition, GoesToShownEnd, HasCursorAt, columns_back, corner, cursor_position, never_drawn};
 ghost use Rattle.line_state.specs.Drawn.{ColorsAreOn, DrawsInFull, DrawsNoneInFull, DrawsResized, RedrawsKept, TakesBack, Writes, cleared};
 ghost use Rattle.line_state.specs.ScreenState.{BeepsAtMost, ResizesTo, WritesAtMost};
 ghost use Rattle.line_state.specs.Shown.{IsShownPlain, KnowsEnd, StandsAtEnd};

@@ -12,7 +12,7 @@ use Rattle.line_buffer.specs.declared.layout.Layout.{Layout}
 use Rattle.line_buffer.specs.declared.layout.Position.{Position}
 use Rattle.line_config.specs.declared.error.ReadlineError.{ReadlineError}
 use Rattle.line_config.specs.declared.prompt.Prompt as prompts
-use Rattle.line_keys.specs.Display.{Screen, corner, shown_end}
+use Rattle.line_keys.specs.Model.Display.{Screen, corner, shown_end}
 use Rattle.line_parts.specs.declared.highlight.Highlighter as highlighters
 use Rattle.line_screen.specs.Measure.{measured}
 use Rattle.line_state.specs.ScreenState.{shown_by}

@@ -2,7 +2,7 @@
 use Rattle.std.proofs.Common.{◌≡◌, ℕ, Bool, List, [], ◌++◌, Option, option_map, cond, refl, append_assoc}
 use Rattle.line_buffer.specs.declared.layout.Layout.{Layout}
 use Rattle.line_config.specs.declared.prompt.Prompt as prompts
-use Rattle.line_keys.specs.Display.{Measure, corner}
+use Rattle.line_keys.specs.Model.Display.{Measure, corner}
 use Rattle.line_parts.specs.declared.highlight.Highlighter as highlighters
 use Rattle.line_term.specs.Escape.{hold, move_bytes, release}
 use Rattle.line_term.specs.Painted.{AppendsSome, Draws, Handed, Painted, PaintsText, PaintsBehind, PaintsPrompt, RedrawsInFull, clear_drawn, drawing, line_end, wrap_behind, wrap_ending}

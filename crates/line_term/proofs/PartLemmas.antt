@@ -12,7 +12,7 @@ use Rattle.unicode_segmentation.specs.Grapheme.{graphemes}
 use Rattle.line_buffer.specs.Printable.{is_plain, is_printable}
 use Rattle.line_buffer.specs.declared.layout.Position.{Position}
 use Rattle.line_buffer.proofs.PlainClusterLemmas.{IsAscii-plain, clusters-plain}
-use Rattle.line_keys.specs.Display.{Screen, Surface, columns_back, corner, next_column, shown_end}
+use Rattle.line_keys.specs.Model.Display.{Screen, Surface, columns_back, corner, next_column, shown_end}
 use Rattle.line_screen.specs.Measure.{columns_after, measured, start_below, wrapped}
 use Rattle.line_screen.specs.MeasureLaws.{EndsPlain-append, columns_after-fitting, graphemes-push, measured-below, measured-nil, measured-one, measured-printable, measured-push}
 use Rattle.line_screen.specs.Cleared.{LosesEnd}

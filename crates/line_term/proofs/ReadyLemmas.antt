@@ -6,7 +6,7 @@ use Rattle.std.proofs.lemmas.List.Sums.{fold-append}
 use Rattle.line_buffer.specs.declared.layout.Layout.{Layout}
 use Rattle.line_buffer.specs.declared.layout.Position.{Position}
 use Rattle.line_config.specs.declared.prompt.Prompt as prompts
-use Rattle.line_keys.specs.Display.{Measure, corner}
+use Rattle.line_keys.specs.Model.Display.{Measure, corner}
 use Rattle.line_parts.specs.declared.highlight.Highlighter as highlighters
 use Rattle.line_term.specs.Drawn.{cleaned}
 use Rattle.line_term.specs.Escape.{bell, clear_below, clear_from, clear_row, columns_bytes, hold, move_bytes, row_break, paste_marked, paste_typed, release, return, rows_bytes, steps}

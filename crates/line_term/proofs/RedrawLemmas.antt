@@ -12,7 +12,7 @@ use Rattle.unicode_segmentation.specs.Grapheme.{graphemes}
 use Rattle.line_buffer.specs.declared.layout.Layout.{Layout}
 use Rattle.line_buffer.specs.declared.layout.Position.{Position}
 use Rattle.line_config.specs.declared.prompt.Prompt as prompts
-use Rattle.line_keys.specs.Display.{Measure, corner, shown_end}
+use Rattle.line_keys.specs.Model.Display.{Measure, corner, shown_end}
 use Rattle.line_parts.specs.declared.highlight.Highlighter as highlighters
 use Rattle.line_screen.specs.Measure.{after_cluster, measured}
 use Rattle.line_screen.specs.MeasureLaws.{measured-below}

@@ -13,7 +13,7 @@ use Rattle.unicode_width.proofs.Rules.{str_width-printable}
 use Rattle.line_buffer.specs.Printable.{is_printable}
 use Rattle.line_buffer.specs.declared.layout.Position.{Position}
 use Rattle.line_buffer.proofs.PlainClusterLemmas.{clusters-plain}
-use Rattle.line_keys.specs.Display.{corner}
+use Rattle.line_keys.specs.Model.Display.{corner}
 use Rattle.line_screen.specs.MeasureLaws.{measured-below}
 use Rattle.line_screen.specs.Measure.{advanced, after_cluster, columns_of, ends_row, measured, start_below}
 use Rattle.line_state.proofs.PlainTextLemmas.{plain_text}

@@ -6,7 +6,7 @@ use Rattle.line_buffer.specs.Printable.{is_printable}
 use Rattle.line_buffer.specs.declared.layout.Layout.{Layout}
 use Rattle.line_buffer.specs.declared.layout.Position.{Position}
 use Rattle.line_config.specs.declared.prompt.Prompt as prompts
-use Rattle.line_keys.specs.Display.{Measure, corner}
+use Rattle.line_keys.specs.Model.Display.{Measure, corner}
 use Rattle.line_parts.specs.declared.highlight.Highlighter as highlighters
 use Rattle.line_screen.specs.Measure.{after_cluster, columns_of, ends_row, measured}
 use Rattle.line_term.specs.Drawn.{cleaned, visible_char}

@@ -5,7 +5,7 @@ ghost use Rattle.std.specs.Io.KnownBytes.{Appends};
 ghost use Rattle.line_config.specs.Error.{FaultsOnly, IsOneMore};
 ghost use Rattle.line_buffer.specs.Printable.{is_plain, is_printable};
 ghost use Rattle.line_buffer.specs.declared.layout.GraphemeClusterMode.TheVariants.{Unicode};
-ghost use Rattle.line_keys.specs.Display.{KeepsShown, uncounted};
+ghost use Rattle.line_keys.specs.Model.Display.{KeepsShown, uncounted};
 ghost use Rattle.line_state.specs.ScreenState.{Agrees, BeepsAtMost, DrawsNoLine, EndsBehind, HasRoom, HoldsAtMost, Tries, WritesAtMost, shown_by, with_shown};
 ghost use Rattle.line_screen.specs.Measure.{measured};
 ghost use Rattle.line_term.specs.Drawn.{cleaned};
@@ -88,7 +88,7 @@ impl<O: Write + Drop, R: RawReader> Drop for Ansi<O, R> {
 }
 
 impl<O: Write + Drop, R: RawReader> ScreenState for Ansi<O, R> {
-    ghost use Rattle.line_keys.specs.Display.{uncounted};
+    ghost use Rattle.line_keys.specs.Model.Display.{uncounted};
     ghost use Rattle.line_term.specs.Shown.{known_screen};
 
     ghost surface = { λ a. record (⟦<Plain<R> as ScreenState>⟧.surface a.shown) {

@@ -4,7 +4,7 @@ use Rattle.line_buffer.specs.Changes.{Entry, inserted}
 use Rattle.line_buffer.specs.declared.movement.CharSearch.{CharSearch}
 use Rattle.line_config.specs.declared.config.EditMode.TheVariants.{Vi}
 use Rattle.line_keys.specs.Command as Commands
-use Rattle.line_keys.specs.Draft.{Draft, empty_draft}
+use Rattle.line_keys.specs.Model.Draft.{Draft, empty_draft}
 use Rattle.line_keys.specs.Item.{key}
 use Rattle.line_keys.specs.Key.{event}
 use Rattle.line_keys.specs.declared.keys.KeyCode.TheVariants.{Char}

@@ -13,7 +13,7 @@ ghost use Rattle.line_editor.specs.Sequence.{Sequences};
 ghost use Rattle.line_editor.specs.ItemShown.{kept, shows_count, shows_line};
 ghost use Rattle.line_editor.specs.Tail.{Tailed};
 ghost use Rattle.line_keys.specs.Command.{end_of_file, insert, interrupt, move, noop, self_insert, undo, unknown};
-ghost use Rattle.line_keys.specs.Draft.{Draft, empty_draft, hinted};
+ghost use Rattle.line_keys.specs.Model.Draft.{Draft, empty_draft, hinted};
 ghost use Rattle.line_keys.specs.Item.{key, paste};
 ghost use Rattle.line_keys.specs.Key.{event};
 ghost use Rattle.line_keys.specs.Table.{gives, one, row_of, searches, stays, unlisted};

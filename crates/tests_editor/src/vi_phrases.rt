@@ -7,7 +7,7 @@ ghost use Rattle.line_buffer.specs.declared.movement.Word.TheVariants as words;
 ghost use Rattle.line_editor.specs.Event.{keys};
 ghost use Rattle.line_editor.specs.Keymap.{nothing_bound, only_bound};
 ghost use Rattle.line_keys.specs.Command.{indent, insert, kill, move, noop, overwrite, replace, replace_char, self_insert, unknown, vi_yank_to, yank};
-ghost use Rattle.line_keys.specs.Draft.{in_group, out_of_group};
+ghost use Rattle.line_keys.specs.Model.Draft.{in_group, out_of_group};
 ghost use Rattle.line_keys.specs.Key.{event};
 ghost use Rattle.line_keys.specs.Redo.{becomes_change};
 ghost use Rattle.line_keys.specs.declared.cmd.Anchor.TheVariants.{After};

@@ -2,7 +2,7 @@
 use Rattle.std.specs.Prelude.{ℕ, ◌==◌, List, if◌then◌else◌}
 use Rattle.std.specs.List.{fold}
 use Rattle.line_buffer.specs.declared.layout.Position.{Position}
-use Rattle.line_keys.specs.Display.{next_column, next_row}
+use Rattle.line_keys.specs.Model.Display.{next_column, next_row}
 
 -- the place after a byte: a newline ends the row, and another byte takes a column
 abbrev pub after_byte : ℕ → Position → ℕ → Position

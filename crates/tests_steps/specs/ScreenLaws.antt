@@ -5,7 +5,7 @@ use Rattle.std.proofs.lemmas.Bool.Decides.{nat_tests}
 use Rattle.std.proofs.lemmas.List.Sums.{fold-append}
 use Rattle.line_buffer.specs.declared.layout.Position.{Position}
 use Rattle.line_buffer.specs.Printable.{is_plain, is_printable}
-use Rattle.line_keys.specs.Display.{next_column}
+use Rattle.line_keys.specs.Model.Display.{next_column}
 use Rattle.tests_steps.specs.Screen.{after_byte, measured_by_bytes}
 
 after_byte-below : (columns : ℕ) (p : Position) (byte : ℕ) → 0 < columns

@@ -247,7 +247,7 @@ fn after_byte(columns: Unit, place: Position, byte: u8) -> Position
 impl<S> ScreenState for Recorder<S> {
     ghost use Rattle.std.specs.Prelude.{true, option_map, string_bytes};
     ghost use Rattle.line_buffer.specs.declared.layout.GraphemeClusterMode.TheVariants.{Unicode};
-    ghost use Rattle.line_keys.specs.Display.{uncounted};
+    ghost use Rattle.line_keys.specs.Model.Display.{uncounted};
     ghost use Rattle.tests_steps.specs.Screen.{measured_by_bytes};
 
     ghost surface = { λ r. record {

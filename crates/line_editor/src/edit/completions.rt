@@ -4,8 +4,8 @@ ghost use Rattle.line_buffer.specs.Changes.{no_changes};
 ghost use Rattle.line_config.specs.Error.{FaultsOnly, MemoryOnly};
 ghost use Rattle.line_editor.specs.Completing.{ComesIn, IsOffered, taken_back_once};
 ghost use Rattle.line_editor.specs.Editor.{edited_of, with_edited};
-ghost use Rattle.line_keys.specs.Draft.{start_text};
-ghost use Rattle.line_keys.specs.Drawing.{Undrawn};
+ghost use Rattle.line_keys.specs.Model.Draft.{start_text};
+ghost use Rattle.line_keys.specs.Model.Drawing.{Undrawn};
 ghost use Rattle.line_parts.specs.Candidate.{BeginsIn, offer_of};
 
 use crate::edit::State;

@@ -3,9 +3,9 @@ ghost use Rattle.line_editor.specs.Outcomes.{DoesCommand};
 ghost use Rattle.line_editor.specs.Resized.{Resizes};
 ghost use Rattle.line_keys.specs.Command as commands;
 ghost use Rattle.std.specs.Prelude.{◌≡◌, ◌<◌, ◌&&◌, true, false, is_some, OnOk, OnErr};
-ghost use Rattle.line_keys.specs.Draft.{hint_shown};
-ghost use Rattle.line_keys.specs.Drawing.{Paints};
-ghost use Rattle.line_keys.specs.ShownLine.{Shows, ShowsByLayout, info_kept};
+ghost use Rattle.line_keys.specs.Model.Draft.{hint_shown};
+ghost use Rattle.line_keys.specs.Model.Drawing.{Paints};
+ghost use Rattle.line_keys.specs.Model.ShownLine.{Shows, ShowsByLayout, info_kept};
 ghost use Rattle.line_state.specs.Drawn.{cleared};
 
 use crate::edit::{Info, State, info_text};

@@ -4,10 +4,10 @@ ghost use Rattle.line_keys.specs.Command as commands;
 ghost use Rattle.std.specs.Prelude.{◌≡◌, option_and_then, option_map, OnOk};
 ghost use Rattle.line_editor.specs.Editor.{with_edited};
 ghost use Rattle.line_editor.specs.DraftEdits.{with_completion_at_end};
-ghost use Rattle.line_keys.specs.Draft.{start_text};
-ghost use Rattle.line_keys.specs.Drawing.{DrewNothing};
-ghost use Rattle.line_keys.specs.Fault.{FaultLeaves};
-ghost use Rattle.line_keys.specs.Frame.{FailsByRenderer, Frame};
+ghost use Rattle.line_keys.specs.Model.Draft.{start_text};
+ghost use Rattle.line_keys.specs.Model.Drawing.{DrewNothing};
+ghost use Rattle.line_keys.specs.Model.Fault.{FaultLeaves};
+ghost use Rattle.line_keys.specs.Model.Frame.{FailsByRenderer, Frame};
 ghost use Rattle.line_parts.specs.Hint.{suggestion_of};
 
 use crate::edit::State;

@@ -5,9 +5,9 @@ ghost use Rattle.std.specs.Prelude.{◌≡◌, ◌+◌, ◌≤◌, ◌⊎◌, Is
 ghost use Rattle.line_buffer.specs.Line.{before};
 ghost use Rattle.line_config.specs.Error.{FaultsOnly, MemoryOnly};
 ghost use Rattle.line_editor.specs.HistoryMoves.{asked_back, asked_for, asked_in_search, asked_on, asked_to_end, at_index, boundary_or_end, come_back, end_shown, entry_grows, entry_put, first_shown, found_shown, line_shown, next_shown, previous_shown, restored, returned_to, saved_at_end, search_of, search_shown, showing, way_ends};
-ghost use Rattle.line_keys.specs.Draft.{start_text};
-ghost use Rattle.line_keys.specs.Drawing.{Does, DoesAsking, DoesInTwo, DrewNothing, Paints, Undrawn, drawn_if, with_hint};
-ghost use Rattle.line_keys.specs.Fault.{LosesChanges};
+ghost use Rattle.line_keys.specs.Model.Draft.{start_text};
+ghost use Rattle.line_keys.specs.Model.Drawing.{Does, DoesAsking, DoesInTwo, DrewNothing, Paints, Undrawn, drawn_if, with_hint};
+ghost use Rattle.line_keys.specs.Model.Fault.{LosesChanges};
 ghost use Rattle.line_parts.specs.Asks.{for_line};
 ghost use Rattle.line_parts.specs.History.{starting_with};
 ghost use Rattle.line_parts.specs.declared.history.SearchDirection.TheVariants.{Forward, Reverse};

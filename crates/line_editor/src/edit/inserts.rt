@@ -4,8 +4,8 @@ ghost use Rattle.std.specs.Prelude.{◌≡◌, ◌==◌, ◌&&◌, not, length};
 ghost use Rattle.line_editor.specs.DraftEdits.{popped_in, text_inserted, yanked_in};
 ghost use Rattle.line_editor.specs.InputState.{input_of};
 ghost use Rattle.line_editor.specs.Outcomes.{DoesCommand, EditsThenDraws};
-ghost use Rattle.line_keys.specs.Drawing.{Does, drawn_if, edit_drawn};
-ghost use Rattle.line_keys.specs.Plainly.{is_bare_line, takes_char};
+ghost use Rattle.line_keys.specs.Model.Drawing.{Does, drawn_if, edit_drawn};
+ghost use Rattle.line_keys.specs.Model.Plainly.{is_bare_line, takes_char};
 ghost use Rattle.line_state.specs.Edited.{pops_text};
 
 use crate::binding::ConditionalEventHandler;

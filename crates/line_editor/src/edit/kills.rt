@@ -7,8 +7,8 @@ ghost use Rattle.line_editor.specs.Drawings.{bracket_drawn, yank_drawn};
 ghost use Rattle.line_editor.specs.DraftEdits.{kill_yanked, range_emptied};
 ghost use Rattle.line_editor.specs.InputState.{input_of};
 ghost use Rattle.line_editor.specs.Outcomes.{DoesKilling, DoesWithKills, EditsThenDraws, editor_of};
-ghost use Rattle.line_keys.specs.Drawing.{nothing};
-ghost use Rattle.line_keys.specs.Plainly.{gives_end};
+ghost use Rattle.line_keys.specs.Model.Drawing.{nothing};
+ghost use Rattle.line_keys.specs.Model.Plainly.{gives_end};
 ghost use Rattle.line_state.specs.Edited.{bracket_range};
 
 use crate::binding::ConditionalEventHandler;

@@ -8,10 +8,10 @@ ghost use Rattle.line_buffer.specs.Word.{word_back, word_on};
 ghost use Rattle.line_editor.specs.Drawings.{move_drawn};
 ghost use Rattle.line_editor.specs.Outcomes.{DoesCommand};
 ghost use Rattle.line_keys.specs.Command as commands;
-ghost use Rattle.line_keys.specs.Display.{GoesToShownEnd};
-ghost use Rattle.line_keys.specs.Drawing.{DoesInTwo, DrawsCursor, MovesTo, Paints, PutsCursorAt, Undrawn, asked_by, cursor};
-ghost use Rattle.line_keys.specs.ShownLine.{IsAtEnd};
-ghost use Rattle.line_keys.specs.ShownLine.{HasShownEnd, ShowsLine};
+ghost use Rattle.line_keys.specs.Model.Display.{GoesToShownEnd};
+ghost use Rattle.line_keys.specs.Model.Drawing.{DoesInTwo, DrawsCursor, MovesTo, Paints, PutsCursorAt, Undrawn, asked_by, cursor};
+ghost use Rattle.line_keys.specs.Model.ShownLine.{IsAtEnd};
+ghost use Rattle.line_keys.specs.Model.ShownLine.{HasShownEnd, ShowsLine};
 ghost use Rattle.line_parts.specs.declared.highlight.CmdKind.TheVariants.{MoveCursor};
 ghost use Rattle.line_state.specs.Moves.{bracket_place, moved, on_way};
 

@@ -5,9 +5,9 @@ ghost use Rattle.line_editor.specs.Editor.{grouped};
 ghost use Rattle.line_editor.specs.InputState.{keys_of};
 ghost use Rattle.line_editor.specs.Reading.{BeforeKey, ReadsCommand};
 ghost use Rattle.line_keys.specs.Command.{command_of};
-ghost use Rattle.line_keys.specs.Draft.{KeepsLine, start_text};
-ghost use Rattle.line_keys.specs.Drawing.{Undrawn};
-ghost use Rattle.line_keys.specs.ShownLine.{KeepsDrawn};
+ghost use Rattle.line_keys.specs.Model.Draft.{KeepsLine, start_text};
+ghost use Rattle.line_keys.specs.Model.Drawing.{Undrawn};
+ghost use Rattle.line_keys.specs.Model.ShownLine.{KeepsDrawn};
 
 use crate::binding::ConditionalEventHandler;
 use crate::edit::State;

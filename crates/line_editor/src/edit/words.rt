@@ -4,7 +4,7 @@ ghost use Rattle.line_keys.specs.Command as commands;
 ghost use Rattle.std.specs.Prelude.{is_some};
 ghost use Rattle.line_buffer.specs.Transpose.{next_alphanumeric};
 ghost use Rattle.line_editor.specs.DraftEdits.{lines_shifted, word_changed};
-ghost use Rattle.line_keys.specs.Drawing.{Does, edit_drawn, with_hint};
+ghost use Rattle.line_keys.specs.Model.Drawing.{Does, edit_drawn, with_hint};
 
 use crate::edit::State;
 use line_buffer::{Movement, RepeatCount, WordAction};

@@ -6,7 +6,7 @@ ghost use Rattle.line_editor.specs.InputState.{behind_input, keys_of};
 ghost use Rattle.line_editor.specs.Operation.{Reaches, motion_behind, operated_if};
 ghost use Rattle.line_editor.specs.Reading.{EndsQuietly, GivesQuietly, OnRead, TakesItems};
 ghost use Rattle.line_keys.specs.Command.{command_of};
-ghost use Rattle.line_keys.specs.Draft.{Draft};
+ghost use Rattle.line_keys.specs.Model.Draft.{Draft};
 ghost use Rattle.line_keys.specs.Item.{key};
 ghost use Rattle.line_keys.specs.Row.{motion_value};
 

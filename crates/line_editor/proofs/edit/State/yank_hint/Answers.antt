@@ -1,5 +1,5 @@
 use Rattle.std.proofs.Common.{ap, ◌∙◌}
-use Rattle.line_keys.specs.Draft.{start_text}
+use Rattle.line_keys.specs.Model.Draft.{start_text}
 use Rattle.line_editor.proofs.HistoryMoveLemmas.{always, first_there}
 use Rattle.line_editor.proofs.edit.State.yank_hint.Goals as goal
 

@@ -6,7 +6,7 @@ use Rattle.line_editor.specs.Keymap.{keymap_of}
 use Rattle.line_editor.specs.declared.input_state.phrases.Read.{Read}
 use Rattle.line_editor.specs.Phrase.{entered}
 use Rattle.line_editor.specs.Reading.{PhraseHere}
-use Rattle.line_keys.specs.Draft.{Draft}
+use Rattle.line_keys.specs.Model.Draft.{Draft}
 use Rattle.line_keys.specs.Item.{key}
 use Rattle.line_editor.proofs.BeginLemmas.{key-begins}
 use Rattle.line_editor.proofs.PartLemmas.{memory_part, refused_part}

@@ -1,5 +1,5 @@
 use Rattle.std.proofs.Common.{◌∙◌, ap}
-use Rattle.line_keys.specs.Draft.{start_text}
+use Rattle.line_keys.specs.Model.Draft.{start_text}
 use Rattle.line_editor.proofs.GroupLemmas.{start_ended}
 use Rattle.line_editor.proofs.ReadingLemmas.{on_answer_then}
 use Rattle.line_editor.proofs.input_state.phrases.change_group.Goals as goal

@@ -1,6 +1,6 @@
 use Rattle.std.proofs.Common.{◌≡◌, ◌∙◌, true, Some, not, option_map, string_bytes, sym, ap}
 use Rattle.line_buffer.specs.declared.layout.GraphemeClusterMode.TheVariants.{Unicode}
-use Rattle.line_keys.specs.Display.{Display}
+use Rattle.line_keys.specs.Model.Display.{Display}
 use Rattle.line_screen.specs.Measure.{measured}
 use Rattle.line_session.specs.Kept.{answers_of}
 use Rattle.line_session.specs.Taken.{is_settled}

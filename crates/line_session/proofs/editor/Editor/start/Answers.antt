@@ -1,6 +1,6 @@
 use Rattle.std.proofs.Common.{◌∙◌, length, option_map, refl, ap, string_bytes}
-use Rattle.line_keys.specs.Draft.{empty_draft}
-use Rattle.line_keys.specs.Display.{Surface}
+use Rattle.line_keys.specs.Model.Draft.{empty_draft}
+use Rattle.line_keys.specs.Model.Display.{Surface}
 use Rattle.line_state.specs.Edited.{Edited}
 use Rattle.line_editor.specs.InputState.{remembered_input}
 use Rattle.line_session.specs.Kept.{answers_of}

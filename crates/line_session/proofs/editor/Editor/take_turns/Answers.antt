@@ -1,6 +1,6 @@
 use Rattle.std.proofs.Common.{rules, ◌≡◌, Some, option_map, refl, ap, subst, string_bytes}
 use Rattle.std.specs.Prelude.{IfOk}
-use Rattle.line_keys.specs.Display.{Surface}
+use Rattle.line_keys.specs.Model.Display.{Surface}
 use Rattle.line_editor.specs.Binding.{bound_of}
 use Rattle.line_editor.specs.InputState.{remembered_input}
 use Rattle.line_session.specs.Kept.{answers_of}

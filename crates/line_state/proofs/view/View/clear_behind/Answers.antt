@@ -1,6 +1,6 @@
 use Rattle.std.proofs.Common.{rules, subst, ◌∙◌, ◌<◌, refl, arith}
 use Rattle.line_buffer.specs.declared.layout.Position.{Position}
-use Rattle.line_keys.specs.Display.{corner}
+use Rattle.line_keys.specs.Model.Display.{corner}
 use Rattle.line_state.proofs.DrawnPartLemmas.{cleared_right, cleared_shown}
 use Rattle.line_state.proofs.view.View.clear_behind.Goals as goal
 

@@ -1,7 +1,7 @@
 use Rattle.std.proofs.Common.{subst, List, ap₂, ◌≡◌, ◌≤◌, ◌<◌, ℕ, length, ◌∙◌, sym, ap, arith}
 use Rattle.std.specs.List.{slice_range}
 use Rattle.line_buffer.specs.declared.layout.Position.{Position}
-use Rattle.line_keys.specs.Display.{columns_back, corner}
+use Rattle.line_keys.specs.Model.Display.{columns_back, corner}
 use Rattle.line_state.proofs.DrawnPartLemmas.{back_between}
 use Rattle.line_state.proofs.PlainTextLemmas.{converted}
 use Rattle.line_state.proofs.view.View.position_back.Goals as goal

@@ -1,5 +1,5 @@
 use Rattle.std.proofs.Common.{rules, ◌≡◌, ◌∙◌, ◌++◌, true, ap}
-use Rattle.line_keys.specs.Display.{Surface}
+use Rattle.line_keys.specs.Model.Display.{Surface}
 use Rattle.line_term.specs.Escape.{move_bytes}
 use Rattle.line_term.specs.Shown.{IsPlace}
 use Rattle.line_term.proofs.KnownLemmas.{moved}

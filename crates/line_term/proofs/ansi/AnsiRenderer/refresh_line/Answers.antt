@@ -1,5 +1,5 @@
 use Rattle.std.proofs.Common.{◌≡◌, ◌∙◌, ◌++◌, ap, sym}
-use Rattle.line_keys.specs.Display.{Surface}
+use Rattle.line_keys.specs.Model.Display.{Surface}
 use Rattle.line_term.proofs.KnownLemmas.{redrawn}
 use Rattle.line_term.proofs.ansi.AnsiRenderer.refresh_line.Goals as goal
 

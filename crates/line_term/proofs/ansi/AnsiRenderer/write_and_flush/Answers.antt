@@ -1,5 +1,5 @@
 use Rattle.std.proofs.Common.{◌≡◌, ◌∙◌, ◌++◌, refl, ap, ap₂}
-use Rattle.line_keys.specs.Display.{Surface}
+use Rattle.line_keys.specs.Model.Display.{Surface}
 use Rattle.line_screen.specs.Measure.{measured}
 use Rattle.line_term.specs.Drawn.{cleaned}
 use Rattle.line_term.specs.Painted.{wrap, wrap_ending}

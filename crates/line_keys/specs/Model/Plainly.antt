@@ -3,8 +3,8 @@ use Rattle.std.specs.Prelude.{◌≡◌, ℕ, ◌+◌, ◌-◌, ◌==◌, ◌&&�
 use Rattle.std.specs.List.{list_all}
 use Rattle.line_buffer.specs.Line.{Line, inserted_at_cursor, is_at_end, without}
 use Rattle.line_buffer.specs.Printable.{is_plain, is_printable}
-use Rattle.line_keys.specs.Display.{Display}
-use Rattle.line_keys.specs.Draft.{Draft}
+use Rattle.line_keys.specs.Model.Display.{Display}
+use Rattle.line_keys.specs.Model.Draft.{Draft}
 use Rattle.line_parts.specs.Environment.{Environment}
 use Rattle.line_parts.specs.declared.highlight.CmdKind.{CmdKind}
 use Rattle.line_parts.specs.declared.highlight.CmdKind.TheVariants.{Other}

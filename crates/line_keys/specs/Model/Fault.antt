@@ -3,7 +3,7 @@ use Rattle.std.specs.Prelude.{◌≡◌, ◌⊎◌, true, Option, None, Result, 
 use Rattle.line_buffer.specs.Changes.{no_changes}
 use Rattle.line_config.specs.Error.{is_fault, is_io, is_memory}
 use Rattle.line_config.specs.declared.error.ReadlineError.{ReadlineError}
-use Rattle.line_keys.specs.Draft.{Draft, KeepsText, hinted}
+use Rattle.line_keys.specs.Model.Draft.{Draft, KeepsText, hinted}
 use Rattle.line_parts.specs.Environment.{Environment}
 use Rattle.line_parts.specs.Hint.{Suggestion}
 

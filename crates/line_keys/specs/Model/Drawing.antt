@@ -3,12 +3,12 @@ use Rattle.std.specs.Prelude.{◌≡◌, ◌⊎◌, ℕ, Bool, true, false, if�
 use Rattle.line_buffer.specs.Line.{Line}
 use Rattle.line_config.specs.declared.error.ReadlineError.{ReadlineError}
 use Rattle.line_buffer.specs.declared.layout.Position.{Position}
-use Rattle.line_keys.specs.Display.{HasCursorAt, IsRight, KeepsPrompt, KeepsShown, SamePrompt, ShowsInFull, ShowsText, corner, cursor_position, ending_at, lit_after}
-use Rattle.line_keys.specs.Draft.{Draft, KeepsText, hint_shown, hinted, start_text}
-use Rattle.line_keys.specs.Fault.{FaultLeaves}
-use Rattle.line_keys.specs.Frame.{FailsByParty, FailsByRenderer, Frame}
-use Rattle.line_keys.specs.Plainly.{KilledPlainly, TypedPlainly, has_highlighting, leaves_bare}
-use Rattle.line_keys.specs.ShownLine.{HasCursorDrawn, HasRightLayout, IsInPlace, KeepsDrawn, Redraws, Shows, StaysKnown}
+use Rattle.line_keys.specs.Model.Display.{HasCursorAt, IsRight, KeepsPrompt, KeepsShown, SamePrompt, ShowsInFull, ShowsText, corner, cursor_position, ending_at, lit_after}
+use Rattle.line_keys.specs.Model.Draft.{Draft, KeepsText, hint_shown, hinted, start_text}
+use Rattle.line_keys.specs.Model.Fault.{FaultLeaves}
+use Rattle.line_keys.specs.Model.Frame.{FailsByParty, FailsByRenderer, Frame}
+use Rattle.line_keys.specs.Model.Plainly.{KilledPlainly, TypedPlainly, has_highlighting, leaves_bare}
+use Rattle.line_keys.specs.Model.ShownLine.{HasCursorDrawn, HasRightLayout, IsInPlace, KeepsDrawn, Redraws, Shows, StaysKnown}
 use Rattle.line_keys.specs.declared.editor_state.EditorState.{Ghosts}
 use Rattle.line_parts.specs.Asks.{Asks, for_hint, nobody}
 use Rattle.line_parts.specs.declared.highlight.CmdKind.{CmdKind}

@@ -2,8 +2,8 @@
 use Rattle.std.specs.Prelude.{◌≡◌, ◌⊎◌, ◌+◌, ◌≤◌, true, if◌then◌else◌, List, Option, None, ℕ}
 use Rattle.line_buffer.specs.declared.layout.Layout.{Layout}
 use Rattle.line_config.specs.Error.{max_count}
-use Rattle.line_keys.specs.Display.{HasCursorAt, IsFullRedraw, IsRight, ShowsInFull, shown_end}
-use Rattle.line_keys.specs.Draft.{Draft, hint_shown}
+use Rattle.line_keys.specs.Model.Display.{HasCursorAt, IsFullRedraw, IsRight, ShowsInFull, shown_end}
+use Rattle.line_keys.specs.Model.Draft.{Draft, hint_shown}
 use Rattle.line_keys.specs.declared.editor_state.EditorState.{Ghosts}
 use Rattle.line_parts.specs.Environment.{Environment, verdict_on}
 use Rattle.line_parts.specs.Verdict.{message_of}
