@@ -95,8 +95,8 @@ impl<O: Write + Drop, R: RawReader> ScreenState for Ansi<O, R> {
       colors = a.colors;
     } };
 
-    ghost screen = { λ a. known_screen (⟦<Plain<R> as ScreenState>⟧.surface a.shown).columns a.whole a.end
-        (⟦<Plain<R> as ScreenState>⟧.screen a.shown) };
+    ghost screen = { λ a. known_screen (⟦<Plain<R> as ScreenState>⟧.surface a.shown).columns
+        a.whole a.end (⟦<Plain<R> as ScreenState>⟧.screen a.shown) };
 
     ghost beside = { λ a. record uncounted { held = a.held } };
 

@@ -33,7 +33,8 @@ impl Highlighter for DimHints {
     ghost sure = { λ _. true };
 
     ghost own_line = { λ h text cursor. if h.lights_brackets
-        then ⟦<MatchingBracketHighlighter as Highlighter>⟧.own_line h.brackets text cursor else None };
+        then ⟦<MatchingBracketHighlighter as Highlighter>⟧.own_line h.brackets text cursor
+        else None };
 
     ghost own_hint = { λ _ hint. Some (dim hint) };
 
