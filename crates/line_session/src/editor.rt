@@ -618,7 +618,7 @@ impl<O: Write + Drop, H: Helper + Drop, S: History + Drop> Editor<O, H, S> {
     {
         let prompt = copied_prompt(self.alloc, prompt)?;
         let edited = line_of(self.alloc, initial.0, initial.1)?;
-        self.ask_for_paste_marks()?;
+        self.mark_pastes(true)?;
         self.prompt = prompt;
         self.line = None;
         self.kill_ring.reset();
@@ -635,11 +635,12 @@ impl<O: Write + Drop, H: Helper + Drop, S: History + Drop> Editor<O, H, S> {
         Ok(())
     }
 
-    /// Asks the terminal to mark pasted texts, where the settings say so.
+    /// Asks the terminal to mark pasted texts, or to mark them no more, where the settings say that
+    /// they are marked.
     ///
     /// # Errors
     /// `Io`, where the output fails. The line that has begun is drawn at the next call then.
-    fn ask_for_paste_marks(&mut self) -> Result<()>
+    fn mark_pastes(&mut self, marked: bool) -> Result<()>
         ensures stays { OnOk result (self.new ≡ self.old) }
         ensures failed { OnErr result (self.new ≡ to_be_drawn self.old) }
         ensures faults { FaultsOnly result }
@@ -647,30 +648,15 @@ impl<O: Write + Drop, H: Helper + Drop, S: History + Drop> Editor<O, H, S> {
         if !self.config.enable_bracketed_paste() {
             return Ok(());
         }
-        let asked = self.screen.enable_bracketed_paste();
-        if asked.is_err() {
+        let told = if marked {
+            self.screen.enable_bracketed_paste()
+        } else {
+            self.screen.disable_bracketed_paste()
+        };
+        if told.is_err() {
             draw_anew(&mut self.line);
         }
-        asked
-    }
-
-    /// Asks the terminal to mark pasted texts no more, where the settings say so.
-    ///
-    /// # Errors
-    /// `Io`, where the output fails. The line that has begun is drawn at the next call then.
-    fn ask_for_no_paste_marks(&mut self) -> Result<()>
-        ensures stays { OnOk result (self.new ≡ self.old) }
-        ensures failed { OnErr result (self.new ≡ to_be_drawn self.old) }
-        ensures faults { FaultsOnly result }
-    {
-        if !self.config.enable_bracketed_paste() {
-            return Ok(());
-        }
-        let asked = self.screen.disable_bracketed_paste();
-        if asked.is_err() {
-            draw_anew(&mut self.line);
-        }
-        asked
+        told
     }
 
     /// Appends the items of what is heard to those that are left.
@@ -742,7 +728,7 @@ impl<O: Write + Drop, H: Helper + Drop, S: History + Drop> Editor<O, H, S> {
         ensures kept { OnErr result (self.new ≡ to_be_drawn self.old) }
         ensures faults { FaultsOnly result }
     {
-        self.ask_for_no_paste_marks()?;
+        self.mark_pastes(false)?;
         self.line = None;
         Ok(fed)
     }
@@ -761,7 +747,7 @@ impl<O: Write + Drop, H: Helper + Drop, S: History + Drop> Editor<O, H, S> {
             return Ok(Fed::More);
         };
         let text = String::from_str(self.alloc, begun.line.line())?;
-        self.ask_for_no_paste_marks()?;
+        self.mark_pastes(false)?;
         add(
             self.config.auto_add_history(),
             text.as_str(),

@@ -29,7 +29,7 @@ returns-clause-starts g c =
       columns = c.self-2.inside.screen.shown.columns;
       rows = c.self-2.inside.screen.shown.rows;
     } in
-    starts_so asked _ _ _ _ _ mid _ begun (c.self-2.view_is ∙ c.in_ok-ask_for_paste_marks.ensures.stays) refl (made.ensures.draft ∙ ap (λ (e : Edited). record (empty_draft (length (g.S.History.lines c.self-2.inside.history))) { line = e.line; changes = e.changes }) c.in_ok-edited.ensures.line) made.ensures.input made.ensures.mode made.ensures.draws made.ensures.prompt
+    starts_so asked _ _ _ _ _ mid _ begun (c.self-2.view_is ∙ c.in_ok-mark_pastes.ensures.stays) refl (made.ensures.draft ∙ ap (λ (e : Edited). record (empty_draft (length (g.S.History.lines c.self-2.inside.history))) { line = e.line; changes = e.changes }) c.in_ok-edited.ensures.line) made.ensures.input made.ensures.mode made.ensures.draws made.ensures.prompt
     c.in_ok-prompt.ensures.raw refl refl c.reset.ensures columns rows made.ensures.answers
 
 pub invariant_of-self : goal.invariant_of-self
