@@ -90,8 +90,8 @@ impl KillRing {
     ///
     /// # Errors
     ///
-    /// `OutOfMemory` where an allocation fails; then the ring is as it was, but that a kill was
-    /// done last.
+    /// `OutOfMemory` if memory runs out. The ring is then as before, with a kill as its last
+    /// action.
     pub fn kill(&mut self, text: &str, mode: Mode) -> Result<(), OutOfMemory>
         ensures ring { OnOk result (self.new ≡ after_kill self.old text.now mode) }
         ensures err { OnErr result (self.new ≡ with_last self.old killed) }

@@ -124,7 +124,7 @@ impl LineBuffer {
     ///
     /// # Errors
     ///
-    /// `OutOfMemory` where an allocation fails.
+    /// `OutOfMemory` if memory runs out.
     pub fn init(alloc: Global, text: &str, pos: usize) -> Result<LineBuffer, OutOfMemory>
         requires { IsCharBoundary text.now pos }
         ensures { IfOk result (λ l. l ≡ record { text = text.now; cursor = pos }) }

@@ -80,7 +80,7 @@ impl Changeset {
     ///
     /// # Errors
     ///
-    /// `OutOfMemory` where an allocation fails; then it is empty, with no open group.
+    /// `OutOfMemory` if memory runs out. The list is then empty, with no open group.
     pub fn begin(&mut self) -> Result<(), OutOfMemory>
         ensures changes { OnOk result (self.new ≡ begun self.old) }
         ensures told { KeepsToldAnywhere result self.old self.new }
@@ -101,7 +101,7 @@ impl Changeset {
     ///
     /// # Errors
     ///
-    /// `OutOfMemory` where an allocation fails; then it is empty, with no open group.
+    /// `OutOfMemory` if memory runs out. The list is then empty, with no open group.
     pub fn end(&mut self) -> Result<bool, OutOfMemory>
         ensures answer { IfOk result (λ added. added
             ≡ adds_end self.old.open_groups self.old.entries) }
@@ -126,8 +126,8 @@ impl Changeset {
     ///
     /// # Errors
     ///
-    /// `OutOfMemory` where an allocation fails; then the list is empty with no open group, and the
-    /// line is text with its cursor on a boundary.
+    /// `OutOfMemory` if memory runs out. The list is then empty, with no open group, and the line
+    /// may be any text with its cursor on a boundary.
     pub fn undo(&mut self, line: &mut LineBuffer, n: RepeatCount) -> Result<bool, OutOfMemory>
         requires { Tells self.old.entries line.old.text }
         ensures answer { IfOk result (λ undone. undone
@@ -152,7 +152,7 @@ impl Changeset {
     ///
     /// # Errors
     ///
-    /// `OutOfMemory` where an allocation fails; the list stays in any case.
+    /// `OutOfMemory` if memory runs out.
     pub fn last_insert(&self) -> Result<Option<String>, OutOfMemory>
         ensures { IfOk result (λ r. option_map string_bytes r ≡ last_insert_of self.now.entries) }
     {

@@ -30,7 +30,7 @@ impl Event {
     /// Returns the input event of one key.
     ///
     /// # Errors
-    /// That memory ran out.
+    /// `Memory` if memory runs out.
     pub fn from_key(alloc: Global, key: KeyEvent) -> Result<Event>
         ensures event { IfOk result (λ event. chord_of event ≡ keys (key ∷ [])) }
         ensures memory { MemoryOnly result }
@@ -43,7 +43,7 @@ impl Event {
     /// Returns an equal input event, whose keys grow from `alloc`.
     ///
     /// # Errors
-    /// That memory ran out.
+    /// `Memory` if memory runs out.
     pub fn clone(&self, alloc: Global) -> Result<Event>
         ensures equal { IfOk result (λ event. chord_of event ≡ chord_of self.now) }
         ensures memory { MemoryOnly result }
@@ -186,7 +186,8 @@ pub trait ConditionalEventHandler: Drop {
     /// bindings, and then in the tables; after a key sequence one more key is read.
     ///
     /// # Errors
-    /// `Io`, only where this handler is not sure, and `Memory`.
+    /// `Io` if this handler fails, and `Memory` if memory runs out. No `Io` comes if the handler is
+    /// sure.
     fn handle(
         &self,
         alloc: Global,

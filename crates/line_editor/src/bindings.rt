@@ -63,7 +63,7 @@ impl<C: ConditionalEventHandler> Bindings<C> {
     /// was.
     ///
     /// # Errors
-    /// That memory ran out. Then the map is as it was.
+    /// `Memory` if memory runs out. The map is then as it was.
     pub fn insert(
         &mut self,
         event: Event,

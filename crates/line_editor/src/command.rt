@@ -38,15 +38,20 @@ pub enum Status {
 ///
 /// # Errors
 /// `Eof` for the end of the input on an empty line alone, and `Interrupted` for an interrupt alone,
-/// with the kept cursor at the kept end. Another error is one of input or output, where the
-/// renderer has failed or where those whom the command asks may fail, or that memory ran out. After
-/// one of input or output the line, its cursor, changes and history index are those of one moment
-/// of the command: before it, halfway or after it. The kill ring is the one that the command
-/// leaves; where that is another one than before, the line is not the one from before. Where memory
-/// ran out the line is of one moment, too, or there are no changes, the saved line and the history
-/// index are those of one moment, and the text, the cursor and the hint may be any; the kill ring
-/// is the one that the command leaves, the one from before, or that one with a kill as its last
+/// with the kept cursor at the kept end. `Io` if the renderer fails, or if the helper or the
+/// history fails where the command asks it. `Memory` if memory runs out.
+///
+/// After `Io` the line, its cursor, its changes, the saved line and the history index are those of
+/// one moment of the command: before it, halfway or after it. The kill ring is the one of that
+/// moment. The hint may be an earlier one or none.
+///
+/// After `Memory` the line is of one moment, too; or it may be any text, without changes, and the
+/// saved line and the history index are those of one moment. The hint may be any. The kill ring is
+/// the one that the command leaves, the one from before, or that one with a kill as its last
 /// action.
+///
+/// The kept layout and what the screen shows are not specified after `Io` and `Memory`: draw the
+/// line again.
 pub fn execute<
     'out,
     'prompt,

@@ -147,7 +147,7 @@ impl<'out, 'prompt, W: Renderer, H: Helper, P: Prompt, S: History> State<
     /// with no changes and with nothing drawn yet.
     ///
     /// # Errors
-    /// That memory ran out.
+    /// `Memory` if memory runs out.
     pub fn with_line(
         alloc: Global,
         out: &'out mut W,
@@ -277,8 +277,8 @@ impl<'out, 'prompt, W: Renderer, H: Helper, P: Prompt, S: History> State<
     /// Nothing is drawn.
     ///
     /// # Errors
-    /// `Io`, only where the helper, or the history that it may ask, is not sure, and `Memory`. The
-    /// hint then stays.
+    /// `Io` if the helper fails, or the history that it asks, and `Memory` if memory runs out. The
+    /// hint then stays, and so does all else.
     pub fn hint(&mut self) -> Result<()>
         ensures draft { let e = ⟦<Self as EditorState>⟧ in OnOk result
             (e.draft self.new ≡ hinted (e.environment self.old) (e.draft self.old)) }

@@ -79,12 +79,15 @@ impl<'b, C: ConditionalEventHandler> InputState<'b, C> {
     /// `single_esc_abort` is handed on to the reader for the first key, in Emacs mode alone.
     ///
     /// # Errors
-    /// `Eof` where the items ended inside a phrase or before one; then a phrase that was cut short
-    /// can be read again with more items after it. Another error is one of input or output, where
-    /// the reader or the renderer has failed, or where the helper, asked for a hint, or a handler
-    /// may fail; or that memory ran out. After an error the line, its cursor and what is remembered
-    /// of the keys stay as they were, and no item past the phrase that was begun is read; after one
-    /// of input or output the changes stay, too, except that open groups of them may have ended.
+    /// `Eof` if the items end inside a phrase or before one; a phrase that was cut short can be
+    /// read again with more items after it. `Io` if the reader or the drawing fails, or a handler,
+    /// or the helper or the history where it is asked for a hint. `Memory` if memory runs out.
+    ///
+    /// After any error the line, its cursor, the saved line, the history index and what is
+    /// remembered of the keys stay, and no item past the phrase that was begun is read. After `Eof`
+    /// and `Io` the changes stay, too, but open groups of them may have ended, and the hint may be
+    /// an earlier one, none or that of the line. After `Memory` changes and hint may be any. After
+    /// `Io` and `Memory` draw the line again.
     pub fn next_cmd<R: RawReader, W: Refresher>(
         &mut self,
         rdr: &mut R,
@@ -104,7 +107,7 @@ impl<'b, C: ConditionalEventHandler> InputState<'b, C> {
     /// last change is copied.
     ///
     /// # Errors
-    /// That memory ran out. Then nothing is remembered.
+    /// `Memory` if memory runs out. Nothing is then remembered.
     #[inline(always)]
     pub(crate) fn remember(&mut self, read: Read) -> Result<Cmd>
         ensures command { IfOk result (λ c. command_of c ≡ command_of read.command) }

@@ -42,9 +42,11 @@ pub enum Turned {
 /// items are to be read again, with more after them.
 ///
 /// # Errors
-/// An error of input or output, where the reader or the renderer has failed, or where the helper or
-/// a handler may fail; or that memory ran out. Then the line and its cursor, what is remembered of
-/// the keys and the kill ring are as they were, and no item past the phrase that was begun is read.
+/// `Io` if the reader, the renderer, a handler, the helper or the history fails, and `Memory` if
+/// memory runs out. The line and its cursor, the saved line, the history index, what is remembered
+/// of the keys and the kill ring are then as they were, and no item past the phrase that was begun
+/// is read. After `Io` the changes are as they were, too, but open groups of them may have ended;
+/// after `Memory` they may be any. The hint may be another one. Draw the line again.
 pub fn read_turn<
     'out,
     'prompt,
@@ -97,7 +99,10 @@ fn as_turn(read: Result<Cmd>, kill_ring: &mut KillRing) -> Result<Option<Cmd>>
 /// what the command leaves to the program.
 ///
 /// # Errors
-/// Those of `execute` but for `Eof` and `Interrupted`, which are ways for a turn to end.
+/// As `execute`, but for `Eof` and `Interrupted`, which are ways for a turn to end: the line, its
+/// changes, the saved line, the history index and the kill ring are those of one moment of the
+/// command; where memory ran out the line may also be any text, without changes, and the kill ring
+/// may be the one from before. What the screen shows is not specified: draw the line again.
 pub fn do_turn<
     'out,
     'prompt,
@@ -135,11 +140,14 @@ pub fn do_turn<
 /// the reader the items of the phrase that was cut short again, with more after them.
 ///
 /// # Errors
-/// An error of input or output, where the reader or the renderer has failed, or where the helper,
-/// the history or a handler may fail; or that memory ran out. Either reading failed: the line and
-/// its cursor, what is remembered of the keys and the kill ring are as they were, and no item past
-/// the phrase that was begun is read. Or the command failed: its phrase is read and no item more,
-/// and the line and the kill ring are left as `execute` leaves them. The error does not say which.
+/// `Io` if the reader, the renderer, a handler, the helper or the history fails, and `Memory` if
+/// memory runs out. The error does not say whether reading failed or the command.
+///
+/// If reading failed, the line and its cursor, the saved line, the history index, what is
+/// remembered of the keys and the kill ring are as they were, and no item past the phrase that was
+/// begun is read. If the command failed, its phrase is read and no item more, and the line, its
+/// changes and the kill ring are left as `execute` leaves them. What the screen shows is not
+/// specified in either case: draw the line again.
 pub fn advance<
     'out,
     'prompt,
@@ -170,7 +178,9 @@ pub fn advance<
 /// proceeds, what its command leaves to the program.
 ///
 /// # Errors
-/// Those of `advance`.
+/// As `advance`: either reading failed, and the line, the history index, what is remembered of the
+/// keys and the kill ring are as they were; or the command failed, and all is left as `execute`
+/// leaves it.
 pub fn take_turn<
     'out,
     'prompt,
@@ -252,12 +262,14 @@ fn take_turn_from<
 /// draws the line first, and after each command what it changed.
 ///
 /// # Errors
-/// `Eof` where the items end, or for the end of the input on an empty line; `Interrupted` for an
-/// interrupt, with the screen cursor at the end of what is shown. Another error is one of input or
-/// output, where the reader or the renderer has failed, or where the helper, the history or a
-/// handler may fail; or that memory ran out. Then either the first drawing failed, and nothing was
-/// read and the line is as it was; or turns were taken up to one that failed, and all is left as
-/// `advance` leaves it.
+/// `Eof` if the items end, or for the end of the input on an empty line, and `Interrupted` for an
+/// interrupt, with the screen cursor at the end of what is shown. After both the line is as the
+/// commands that were read leave it. `Io` if the reader, the renderer, a handler, the helper or the
+/// history fails, and `Memory` if memory runs out.
+///
+/// After `Io` or `Memory` either the first drawing failed: nothing was read, and of the line at
+/// most the hint has changed. Or turns were taken up to one that failed, and all is left as
+/// `advance` leaves it. What the screen shows is not specified: draw the line again.
 pub fn run<
     'out,
     'prompt,

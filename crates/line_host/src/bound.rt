@@ -40,7 +40,7 @@ impl BoundCommands {
     /// Binds an input event to a command, in place of the one that it was bound to, if it was.
     ///
     /// # Errors
-    /// `Memory`: nothing was bound then.
+    /// `Memory` if memory runs out. Nothing is then bound.
     pub fn bind(&mut self, event: Event, command: Cmd) -> Result<()>
         ensures bound { OnOk result (Rebinds (bound self.old) (bound self.new) (chord_of event)
             (answers (Some (command_of command)))) }

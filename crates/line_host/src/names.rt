@@ -12,7 +12,7 @@ use std::alloc::Global;
 /// where there is no name, or a key is not called so.
 ///
 /// # Errors
-/// `Memory`.
+/// `Memory` if memory runs out.
 pub fn event_named(alloc: Global, names: &str) -> Result<Option<Event>>
     ensures { MemoryOnly result }
 {

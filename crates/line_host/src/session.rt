@@ -70,7 +70,7 @@ impl Session {
     /// Returns a session in which no line has begun.
     ///
     /// # Errors
-    /// `BadSetting`, where there are no columns, and `NoMemory`.
+    /// `BadSetting` if there are no columns, and `NoMemory` if memory runs out.
     pub fn new(alloc: Global, settings: &Settings) -> std::result::Result<Session, Status>
         ensures { MatchResult result (IsNew settings.now) (Refuses settings.now) }
     {
@@ -434,7 +434,7 @@ fn text_of(kept: &Option<String>) -> Option<&str>
 /// Returns the lines of a text that are not empty.
 ///
 /// # Errors
-/// `Memory`.
+/// `Memory` if memory runs out.
 fn words_of(alloc: Global, text: &str) -> Result<Vec<String>>
     ensures words { IfOk result (λ words. map string_bytes words.items ≡ words_in text.now) }
     ensures memory { MemoryOnly result }

@@ -125,7 +125,7 @@ impl Cmd {
     /// Returns an equal command, whose text grows from `alloc`.
     ///
     /// # Errors
-    /// That memory ran out.
+    /// `Memory` if memory runs out.
     pub fn clone(&self, alloc: Global) -> Result<Cmd>
         ensures equal { IfOk result (λ command. command_of command ≡ command_of self.now) }
         ensures memory { MemoryOnly result }

@@ -140,7 +140,7 @@ impl TypedCount {
     /// Returns the prompt that shows the count: `(arg: N) `, where N is -1 for a minus sign alone.
     ///
     /// # Errors
-    /// That memory ran out.
+    /// `Memory` if memory runs out.
     pub fn prompt(&self, alloc: Global) -> Result<String>
         ensures text { (keys : List KeyEvent) → IsCountOf self.now keys
             → IfOk result (λ prompt. string_bytes prompt ≡ count_prompt keys) }

@@ -14,10 +14,10 @@ use line_config::ReadlineError;
 /// one.
 ///
 /// # Errors
-/// A failed call takes nothing. `Eof` is returned only at the end of the list, where no call
-/// succeeds, and `Interrupted` never. Another error is one of input or output, and then the count
-/// of failures has risen; or that memory ran out. Without an error of input or output the count of
-/// failures stays.
+/// A failed call takes nothing. `Eof` comes only at the end of the list, where no call succeeds,
+/// and `Interrupted` never. `Io` if the reader fails: the count of failures has then risen, if it
+/// was not at its greatest value. `Memory` if memory runs out. After `Eof` and `Memory` the count
+/// is as before.
 pub trait RawReader {
     ghost rest: { Self → List Item };
 

@@ -17,7 +17,7 @@ impl Cmd {
     /// is, also one with a count.
     ///
     /// # Errors
-    /// That memory ran out.
+    /// `Memory` if memory runs out.
     pub fn redo<W: Refresher>(self, new: Option<RepeatCount>, wrt: &W) -> Result<Cmd>
         ensures command { let last = last_insert_of (W.draft wrt.now).changes.entries in
             IfOk result (λ c. command_of c ≡ bound_anew new last (command_of self)) }
@@ -47,7 +47,7 @@ impl Cmd {
     /// to it, but a typed character becomes the text that was inserted last, where there is one.
     ///
     /// # Errors
-    /// That memory ran out.
+    /// `Memory` if memory runs out.
     pub fn repeat<W: Refresher>(self, new: Option<RepeatCount>, wrt: &W) -> Result<Cmd>
         ensures command { let last = last_insert_of (W.draft wrt.now).changes.entries in
             IfOk result (λ c. command_of c ≡ redone true new last (command_of self)) }

@@ -43,9 +43,10 @@ impl Invoke for &str {
 /// Every call leaves the text, the cursor and the history index.
 ///
 /// # Errors
-/// An error of input or output, where the renderer failed, or where the helper or the history was
-/// asked and may fail; or that memory ran out. A call that draws then leaves the kept layout, and
-/// the hint is the one from before or the one that was to be drawn.
+/// `Io` if the renderer fails, or if the helper or the history fails where it is asked for a hint,
+/// and `Memory` if memory runs out. Where a call draws, the changes and the kept layout then stay,
+/// and the hint is the one from before or the one that was to be drawn. What the screen shows is
+/// not specified: draw again.
 pub trait Refresher: EditorState {
     /// Asks for the hint and draws all again.
     fn refresh_line(&mut self) -> Result<()>
@@ -65,7 +66,8 @@ pub trait Refresher: EditorState {
     /// Opens a group of changes.
     ///
     /// # Errors
-    /// That memory ran out; then the changes are gone.
+    /// `Memory` if memory runs out. The changes are then gone. All else of the line stays, and
+    /// nothing is drawn.
     fn doing_insert(&mut self) -> Result<()>
         ensures draft { OnOk result (Self.draft self.new ≡ in_group (Self.draft self.old)) }
         ensures err { OnErr result (Self.draft self.new ≡ without_changes (Self.draft self.old)) }
@@ -75,7 +77,8 @@ pub trait Refresher: EditorState {
     /// Closes every open group of changes.
     ///
     /// # Errors
-    /// That memory ran out; then the changes are gone.
+    /// `Memory` if memory runs out. The changes are then gone. All else of the line stays, and
+    /// nothing is drawn.
     fn done_inserting(&mut self) -> Result<()>
         ensures draft { OnOk result (Self.draft self.new ≡ out_of_group (Self.draft self.old)) }
         ensures err { OnErr result (Self.draft self.new ≡ without_changes (Self.draft self.old)) }
@@ -86,7 +89,7 @@ pub trait Refresher: EditorState {
     /// group was begun or a text deleted since.
     ///
     /// # Errors
-    /// That memory ran out.
+    /// `Memory` if memory runs out.
     fn last_insert(&self) -> Result<Option<String>>
         ensures text { IfOk result (λ text.
             option_map string_bytes text ≡ last_insert_of (Self.draft self.now).changes.entries) }

@@ -97,7 +97,8 @@ pub trait Completer {
     /// That part ends at the cursor, which is at byte `pos`.
     ///
     /// # Errors
-    /// `Io`, only where this completer or the history is not sure, and `Memory`.
+    /// `Io` if this completer or the history fails, and `Memory` if memory runs out. No `Io` comes
+    /// if both are sure.
     fn complete<S: History>(
         &self,
         alloc: Global,
@@ -126,8 +127,9 @@ pub trait Completer {
     /// cursor then stands after that text.
     ///
     /// # Errors
-    /// `Io`, only where this completer is not sure, and `Memory`. The changes then still record the
-    /// line, or there are none.
+    /// `Io` if this completer fails, and `Memory` if memory runs out. The line may then be any text
+    /// with its cursor on a boundary. The changes still record the line, or there are none. No `Io`
+    /// comes if this completer is sure.
     fn update(
         &self,
         line: &mut LineBuffer,

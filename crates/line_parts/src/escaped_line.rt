@@ -74,7 +74,7 @@ fn push_escaped(text: &mut Vec<u8>, byte: u8, escapes: Escapes) -> Result<()>
 /// Puts a line after a text, with these escapes.
 ///
 /// # Errors
-/// `Memory`, where an allocation fails. `text` may then have a part of the line after it.
+/// `Memory` if memory runs out. `text` may then have a part of the line after it.
 pub fn push_escaped_line(text: &mut Vec<u8>, line: &str, escapes: Escapes) -> Result<()>
     ensures text { OnOk result
         (text.new.items ≡ text.old.items ++ escaped_line escapes line.now) }
@@ -109,7 +109,7 @@ fn read_escape(line: &[u8], at: usize, escapes: Escapes) -> Option<u8>
 /// where, read from the left, a backslash begins none of the escapes.
 ///
 /// # Errors
-/// `Memory`, where an allocation fails. What `text` holds is then left open.
+/// `Memory` if memory runs out. `text` may then hold anything.
 pub fn unescape_line(line: &[u8], escapes: Escapes, text: &mut Vec<u8>) -> Result<bool>
     ensures good { IfOk result (λ good. good ≡ true → Unescapes escapes line.now text.new.items) }
     ensures bad { IfOk result (λ good. good ≡ false

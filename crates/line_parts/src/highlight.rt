@@ -57,7 +57,8 @@ pub trait Highlighter {
     /// Returns the line as it is shown with the cursor at byte `pos`.
     ///
     /// # Errors
-    /// `Io`, only where this highlighter is not sure, and `Memory`.
+    /// `Io` if this highlighter fails, and `Memory` if memory runs out. No `Io` comes if this
+    /// highlighter is sure.
     fn highlight<'l>(&self, alloc: Global, line: &'l str, pos: usize) -> Result<CowStr<'l>>
         ensures text { IsShownAs result line.now (own_line self.now line.now pos) }
         ensures io { IoOnlyIf result (sure self.now ≡ false) }
@@ -71,7 +72,8 @@ pub trait Highlighter {
     /// Returns the prompt as it is shown. `default` says whether it is the line's own prompt.
     ///
     /// # Errors
-    /// `Io`, only where this highlighter is not sure, and `Memory`.
+    /// `Io` if this highlighter fails, and `Memory` if memory runs out. No `Io` comes if this
+    /// highlighter is sure.
     fn highlight_prompt<'b, 's: 'b, 'p: 'b>(
         &'s self,
         alloc: Global,
@@ -90,7 +92,8 @@ pub trait Highlighter {
     /// Returns the hint as it is shown.
     ///
     /// # Errors
-    /// `Io`, only where this highlighter is not sure, and `Memory`.
+    /// `Io` if this highlighter fails, and `Memory` if memory runs out. No `Io` comes if this
+    /// highlighter is sure.
     fn highlight_hint<'h>(&self, alloc: Global, hint: &'h str) -> Result<CowStr<'h>>
         ensures text { IsShownAs result hint.now (own_hint self.now hint.now) }
         ensures io { IoOnlyIf result (sure self.now ≡ false) }
@@ -103,7 +106,8 @@ pub trait Highlighter {
     /// Returns a candidate of a completion as it is shown.
     ///
     /// # Errors
-    /// `Io`, only where this highlighter is not sure, and `Memory`.
+    /// `Io` if this highlighter fails, and `Memory` if memory runs out. No `Io` comes if this
+    /// highlighter is sure.
     fn highlight_candidate<'c>(
         &self,
         alloc: Global,
@@ -206,7 +210,7 @@ impl Highlighter for MatchingBracketHighlighter {
     /// it has at most one byte.
     ///
     /// # Errors
-    /// `Memory`, where an allocation fails.
+    /// `Memory` if memory runs out.
     fn highlight<'l>(&self, alloc: Global, line: &'l str, _pos: usize) -> Result<CowStr<'l>>
         ensures shown { IfOk result (λ t.
             cow_str_bytes t ≡ unwrap_or (with_match_lit self.now line.now) line.now) }

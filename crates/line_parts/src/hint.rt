@@ -74,7 +74,8 @@ pub trait Hinter {
     /// Returns the hint for `line` with the cursor at byte `pos`, or None where there is none.
     ///
     /// # Errors
-    /// `Io`, only where this hinter or the history is not sure, and `Memory`.
+    /// `Io` if this hinter or the history fails, and `Memory` if memory runs out. No `Io` comes if
+    /// both are sure.
     fn hint<S: History>(
         &self,
         alloc: Global,
@@ -143,7 +144,8 @@ impl Hinter for HistoryHinter {
     /// begins so, and where the nearest one equals `line`.
     ///
     /// # Errors
-    /// `Io`, only where the history is not sure, and `Memory`.
+    /// `Io` if the history fails, and `Memory` if memory runs out. No `Io` comes if the history is
+    /// sure.
     fn hint<S: History>(
         &self,
         alloc: Global,

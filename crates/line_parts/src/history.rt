@@ -44,7 +44,7 @@ impl<'a> SearchResult<'a> {
     /// Returns an equal result. A borrowed line stays borrowed.
     ///
     /// # Errors
-    /// `Memory`, where an allocation fails.
+    /// `Memory` if memory runs out.
     pub fn clone(&self) -> Result<Self>
         ensures answer { IfOk result (λ copy. found_of copy ≡ found_of self.now) }
         ensures memory { MemoryOnly result }
@@ -75,7 +75,8 @@ pub trait History {
     /// whatever the direction.
     ///
     /// # Errors
-    /// `Io`, only where the history is not sure, and `Memory`.
+    /// `Io` if the history fails, and `Memory` if memory runs out. No `Io` comes if the history is
+    /// sure.
     fn get(&self, index: usize, dir: SearchDirection) -> Result<Option<SearchResult<'_>>>
         ensures answer { Finds result (entry_at (lines self.now) index) }
         ensures io { IoOnlyIf result (sure self.now ≡ false) }
@@ -86,7 +87,8 @@ pub trait History {
     /// it begins with white space or equals the newest line and such lines are ignored.
     ///
     /// # Errors
-    /// `Io`, only where the history is not sure, and `Memory`. The lines then stay as they were.
+    /// `Io` if the history fails, and `Memory` if memory runs out. The lines then stay as they
+    /// were. No `Io` comes if the history is sure.
     fn add(&mut self, line: &str) -> Result<bool>
         ensures answer { TellsTaken result (rules self.old) (lines self.old) line.now }
         ensures lines { lines self.new ≡ (if is_ok result
@@ -99,7 +101,8 @@ pub trait History {
     /// Adds `line` as `add` adds a copy of it.
     ///
     /// # Errors
-    /// `Io`, only where the history is not sure, and `Memory`. The lines then stay as they were.
+    /// `Io` if the history fails, and `Memory` if memory runs out. The lines then stay as they
+    /// were. No `Io` comes if the history is sure.
     fn add_owned(&mut self, line: String) -> Result<bool>
         ensures answer { TellsTaken result (rules self.old) (lines self.old) (string_bytes line) }
         ensures lines { lines self.new ≡ (if is_ok result
@@ -123,7 +126,8 @@ pub trait History {
     /// Sets how many lines are kept at most. Where there are more, the oldest are dropped.
     ///
     /// # Errors
-    /// `Io`, only where the history is not sure, and `Memory`. Nothing has then changed.
+    /// `Io` if the history fails, and `Memory` if memory runs out. Nothing has then changed. No
+    /// `Io` comes if the history is sure.
     fn set_max_len(&mut self, len: usize) -> Result<()>
         ensures lines { lines self.new
             ≡ (if is_ok result then last_of len (lines self.old) else lines self.old) }
@@ -136,7 +140,8 @@ pub trait History {
     /// Sets whether a line that equals the newest one is left out.
     ///
     /// # Errors
-    /// `Io`, only where the history is not sure, and `Memory`. Nothing has then changed.
+    /// `Io` if the history fails, and `Memory` if memory runs out. Nothing has then changed. No
+    /// `Io` comes if the history is sure.
     fn ignore_dups(&mut self, yes: bool) -> Result<()>
         ensures lines { lines self.new ≡ lines self.old }
         ensures rules { rules self.new ≡ (if is_ok result
@@ -154,7 +159,8 @@ pub trait History {
     /// Drops all lines.
     ///
     /// # Errors
-    /// `Io`, only where the history is not sure, and `Memory`. Nothing has then changed.
+    /// `Io` if the history fails, and `Memory` if memory runs out. Nothing has then changed. No
+    /// `Io` comes if the history is sure.
     fn clear(&mut self) -> Result<()>
         ensures lines { lines self.new ≡ (if is_ok result then [] else lines self.old) }
         ensures rules { rules self.new ≡ rules self.old }
@@ -167,7 +173,8 @@ pub trait History {
     /// where `start` is not the index of a line.
     ///
     /// # Errors
-    /// `Io`, only where the history is not sure, and `Memory`.
+    /// `Io` if the history fails, and `Memory` if memory runs out. No `Io` comes if the history is
+    /// sure.
     fn search(
         &self,
         term: &str,
@@ -183,7 +190,8 @@ pub trait History {
     /// where `start` is not the index of a line.
     ///
     /// # Errors
-    /// `Io`, only where the history is not sure, and `Memory`.
+    /// `Io` if the history fails, and `Memory` if memory runs out. No `Io` comes if the history is
+    /// sure.
     fn starts_with(
         &self,
         term: &str,

@@ -92,7 +92,8 @@ impl<'out, H: Helper, S: History> Parties<'out, H, S> {
     /// Without a helper there is none.
     ///
     /// # Errors
-    /// `Io`, only where the hinter or the history is not sure, and `Memory`.
+    /// `Io` if the hinter or the history fails, and `Memory` if memory runs out. No `Io` comes if
+    /// both are sure.
     #[tactic(auto, unfolding(crate::specs::Helped::hint_by, crate::specs::Helped::hints_surely_by))]
     pub fn hint(&self, alloc: Global, line: &LineBuffer) -> Result<Option<H::Hint>>
         ensures answer { let p = ⟦<Self as Consulted>⟧ in Suggests H.Hint.Hint result
@@ -111,7 +112,7 @@ impl<'out, H: Helper, S: History> Parties<'out, H, S> {
     /// the helper's candidates for it. Without a helper there are none.
     ///
     /// # Errors
-    /// Those of the helper: `Io` and `Memory`.
+    /// `Io` if the helper or the history fails, and `Memory` if memory runs out.
     #[tactic(auto, unfolding(crate::specs::Helped::completion_by))]
     pub fn complete(&self, alloc: Global, line: &LineBuffer) -> Result<(usize, Vec<H::Candidate>)>
         ensures start { IfOk result (λ r. BeginsIn line.now.text line.now.cursor r.0) }
@@ -140,7 +141,8 @@ impl<'out, H: Helper, S: History> Parties<'out, H, S> {
     /// valid.
     ///
     /// # Errors
-    /// `Io`, only where the validator is not sure, and `Memory`.
+    /// `Io` if the validator fails, and `Memory` if memory runs out. No `Io` comes if the validator
+    /// is sure.
     #[tactic(auto, unfolding(crate::specs::Helped::is_sure_by, crate::specs::Helped::verdict_by))]
     pub fn validate(&self, alloc: Global, line: &LineBuffer) -> Result<ValidationResult>
         ensures answer { IfOk result (λ r. verdict_of r

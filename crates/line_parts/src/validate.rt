@@ -70,7 +70,8 @@ pub trait Validator {
     /// Returns the validation result for the text.
     ///
     /// # Errors
-    /// `Io`, only where this validator is not sure, and `Memory`.
+    /// `Io` if this validator fails, and `Memory` if memory runs out. No `Io` comes if this
+    /// validator is sure.
     fn validate(&self, alloc: Global, ctx: &ValidationContext<'_>) -> Result<ValidationResult>
         ensures answer { IfOk result (λ r. verdict_of r ≡ verdict_at self.now ctx.now) }
         ensures io { IoOnlyIf result (sure self.now ≡ false) }
@@ -128,7 +129,7 @@ impl Validator for MatchingBracketValidator {
     /// message names the bracket at fault, or the last bracket before it that is open.
     ///
     /// # Errors
-    /// `Memory`, where an allocation fails.
+    /// `Memory` if memory runs out.
     #[tactic(auto, using(crate::proofs::BracketLemmas::judged_so))]
     fn validate(&self, alloc: Global, ctx: &ValidationContext<'_>) -> Result<ValidationResult>
         ensures answer { IfOk result (λ r. verdict_of r ≡ bracket_verdict ctx.now) }

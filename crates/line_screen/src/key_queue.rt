@@ -95,7 +95,7 @@ impl KeyQueue {
     /// Appends a key.
     ///
     /// # Errors
-    /// `Memory`, and then nothing was appended.
+    /// `Memory` if memory runs out. Nothing is then appended.
     #[tactic(auto, using(crate::proofs::QueueLemmas::appended, crate::proofs::QueueLemmas::appended_behind))]
     pub fn press(&mut self, key: KeyEvent) -> Result<()>
         ensures { Appends result (input.key key ∷ []) self.old self.new }
@@ -107,7 +107,7 @@ impl KeyQueue {
     /// Appends a key without modifiers for each character of the text.
     ///
     /// # Errors
-    /// `Memory`, and then nothing was appended.
+    /// `Memory` if memory runs out. Nothing is then appended.
     #[tactic(auto, using(crate::proofs::QueueLemmas::typed, crate::proofs::QueueLemmas::typed_behind))]
     pub fn type_text(&mut self, text: &str) -> Result<()>
         ensures { Appends result (map plain_key (chars text.now)) self.old self.new }
@@ -118,7 +118,7 @@ impl KeyQueue {
     /// Appends the key that stands before a pasted text, and the text.
     ///
     /// # Errors
-    /// `Memory`, and then nothing was appended.
+    /// `Memory` if memory runs out. Nothing is then appended.
     pub fn paste(&mut self, text: &str) -> Result<()>
         ensures { Appends result
             (input.key paste_start ∷ input.paste text.now ∷ []) self.old self.new }
@@ -172,7 +172,7 @@ impl KeyQueue {
     /// where the next item is a key or nothing is left.
     ///
     /// # Errors
-    /// `Memory`: the text is a copy. Then nothing is taken.
+    /// `Memory` if memory runs out. Nothing is then taken.
     pub fn next_paste(&mut self) -> Result<Option<String>>
         ensures took { IfOk result (λ next. IfSome next
             (λ t. self.old.rest ≡ input.paste (string_bytes t) ∷ self.new.rest)) }

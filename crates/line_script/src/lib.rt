@@ -109,8 +109,9 @@ fn complain<E: Write>(script: &[u8], line: usize, errors: &mut E) -> Result<()> 
 ///
 /// # Errors
 ///
-/// `Memory` where an allocation failed before the run or while it was printed, and `Io` where `out`
-/// can't be written. What was printed then is a beginning of the six lines.
+/// `Memory` if memory runs out before the run or while it is printed, and `Io` if `out` fails. A
+/// beginning of the six lines may then have been printed, and what the script types may have been
+/// read.
 pub fn edit<O: Write>(
     alloc: Global,
     parsed: &mut Parsed,

@@ -93,7 +93,7 @@ impl Report<'_> {
     /// Writes the report, a line for each part of it.
     ///
     /// # Errors
-    /// Those of `out`, which may then have a part of the report.
+    /// The error of `out`, if that fails. It may then have a part of the report.
     pub fn write_to<O: Write>(&self, out: &mut O) -> io::Result<()> {
         writeln!(out, "outcome {}", self.outcome)?;
         out.write_all(b"line ")?;
@@ -110,7 +110,7 @@ impl Report<'_> {
 /// is.
 ///
 /// # Errors
-/// Those of `out`, which may then have a part of the text.
+/// The error of `out`, if that fails. It may then have a part of the text.
 pub fn write_escaped<O: Write>(text: &str, out: &mut O) -> io::Result<()> {
     let mut rest = text.as_bytes();
     while let Some(at) = memchr2(b'\\', b'\n', rest) {

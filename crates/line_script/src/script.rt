@@ -61,7 +61,7 @@ impl Parsed {
     ///
     /// # Errors
     ///
-    /// `Memory` where an allocation failed.
+    /// `Memory` if memory runs out.
     pub fn new(alloc: Global) -> Result<Parsed, ReadlineError> {
         Ok(Parsed {
             history: FileHistory::new(alloc),
@@ -91,8 +91,8 @@ impl Parsed {
     ///
     /// # Errors
     ///
-    /// `BadLine` where it is not UTF-8, of no known form, or a setting after a line of items, and
-    /// `Fault` where an allocation failed.
+    /// `BadLine` if it is not UTF-8, of no known form, or a setting after a line of items: nothing
+    /// is then added. `Fault` if memory runs out: a part may then have been added.
     fn push_bytes(
         &mut self,
         alloc: Global,
@@ -116,7 +116,7 @@ impl Parsed {
     ///
     /// # Errors
     ///
-    /// `Memory` where an allocation failed.
+    /// `Memory` if memory runs out. A part of what the line stands for may then have been added.
     pub fn push_line(&mut self, alloc: Global, line: &str) -> Result<bool, ReadlineError> {
         let Some((kind, text)) = line.split_once(' ') else {
             return Ok(!self.has_item_lines && switch_on(line, &mut self.helper));
@@ -186,7 +186,7 @@ impl From<ReadlineError> for ScriptError {
 ///
 /// # Errors
 /// `BadLine` for the first line that is not UTF-8, is of no known form, or is a setting after a
-/// line of items. `Fault` where the input fails, or an allocation.
+/// line of items. `Fault` if the input fails, or if memory runs out.
 pub fn read_script<R: Read + Drop>(alloc: Global, mut input: R) -> Result<Parsed, ScriptError> {
     let mut bytes = Vec::new(alloc);
     input.read_to_end(&mut bytes)?;
@@ -314,7 +314,7 @@ fn push_key(name: &str, items: &mut Script) -> Result<bool, ReadlineError>
 ///
 /// # Errors
 ///
-/// `Memory` where an allocation failed.
+/// `Memory` if memory runs out.
 pub fn unescape(alloc: Global, text: &str) -> Result<Option<String>, ReadlineError>
     ensures { IfOk result (λ plain.
         IfSome plain (λ plain. Unescapes V2 text.now (string_bytes plain))) }

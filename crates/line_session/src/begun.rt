@@ -113,7 +113,7 @@ fn is_to_be_drawn<E: Modal>(mode: &Mode, turned: &Result<Turned>, state: &E) -> 
 /// Returns a line without changes, with these texts before and after the cursor.
 ///
 /// # Errors
-/// `Memory`.
+/// `Memory` if memory runs out.
 pub(crate) fn line_of(alloc: Global, left: &str, right: &str) -> Result<EditedLine>
     ensures line { IfOk result (λ edited. edited
         ≡ record { line = line_with left.now right.now; changes = no_changes }) }

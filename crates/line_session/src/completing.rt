@@ -45,7 +45,8 @@ impl Drop for Completing {
 /// Several beep then, and are listed at once or at another Tab.
 ///
 /// # Errors
-/// Those of the helper and of the output: `Io` and `Memory`.
+/// `Io` if the output, the helper or the history fails, and `Memory` if memory runs out. The line,
+/// its changes and the hint may then be any, and so may what the screen shows.
 pub(crate) fn complete<E: Modal>(state: &mut E, config: &Config) -> Result<Mode>
     requires { IsLineShown E.EditorState state.old }
     ensures begins { IfOk result (BeginsCompletion config.now (E.environment state.old)
@@ -180,7 +181,8 @@ impl Completing {
     /// the first one.
     ///
     /// # Errors
-    /// Those of the helper and of the output: `Io` and `Memory`.
+    /// `Io` if the output, the helper or the history fails, and `Memory` if memory runs out. The
+    /// line, its changes and the hint may then be any, and so may what the screen shows.
     pub(crate) fn show_next<E: Modal>(self, state: &mut E) -> Result<Mode>
         ensures goes { IfOk result (GoesOnTo (E.environment state.old) self (index_behind self)
             (E.draft state.old) (E.draft state.new)) }
@@ -199,7 +201,8 @@ impl Completing {
     /// Shows the candidate before the shown one, the other way round.
     ///
     /// # Errors
-    /// Those of `show_next`.
+    /// As `show_next`: the line, its changes and the hint may be any, and so may what the screen
+    /// shows.
     pub(crate) fn show_previous<E: Modal>(self, state: &mut E) -> Result<Mode>
         ensures goes { IfOk result (GoesOnTo (E.environment state.old) self (index_before self)
             (E.draft state.old) (E.draft state.new)) }
@@ -243,7 +246,8 @@ impl Completing {
     /// Gives up the candidates: shows the line from before them.
     ///
     /// # Errors
-    /// Those of the output: `Io` and `Memory`.
+    /// `Io` if the output, the helper or the history fails, and `Memory` if memory runs out. The
+    /// line, its changes and the hint may then be any, and so may what the screen shows.
     pub(crate) fn give_up<E: Modal>(self, state: &mut E) -> Result<Mode>
         ensures gives { IfOk result (GivesUp (E.environment state.old) self (E.draft state.old)
             (E.draft state.new)) }

@@ -240,7 +240,7 @@ impl<O: Write + Drop, H: Helper + Drop, S: History + Drop> Editor<O, H, S> {
     /// whether it was added.
     ///
     /// # Errors
-    /// `Io`, where the history fails, and `Memory`. Nothing has changed then.
+    /// `Io` if the history fails, and `Memory` if memory runs out. Nothing has then changed.
     pub fn add_history_entry(&mut self, line: &str) -> Result<bool>
         ensures answer { self.old.line ≡ None
             → TellsTaken result self.old.takes self.old.lines line.now }
@@ -337,9 +337,9 @@ impl<O: Write + Drop, H: Helper + Drop, S: History + Drop> Editor<O, H, S> {
     /// takes the turns of the keys that were typed ahead. A line that had begun before is dropped.
     ///
     /// # Errors
-    /// `Io`, where the output, the helper or the history fails, and `Memory`. If the line had begun
-    /// by then, `line` returns its text, and it goes on at the next call. If it had not, the line
-    /// before goes on unchanged, if there was one.
+    /// `Io` if the output, a handler, the helper or the history fails, and `Memory` if memory runs
+    /// out. If the line had begun by then, it goes on, and `line` returns its text. If not, the one
+    /// before goes on unchanged, if any, but may be drawn anew. The history's lines stay.
     pub fn begin_with<P: Prompt, C: ConditionalEventHandler>(
         &mut self,
         prompt: &P,
@@ -358,7 +358,7 @@ impl<O: Write + Drop, H: Helper + Drop, S: History + Drop> Editor<O, H, S> {
     /// Begins an empty line, as `begin_with` does.
     ///
     /// # Errors
-    /// Those of `begin_with`.
+    /// As `begin_with`: the line goes on if it had begun, and else the one before, if any.
     pub fn begin<P: Prompt, C: ConditionalEventHandler>(
         &mut self,
         prompt: &P,
@@ -375,8 +375,9 @@ impl<O: Write + Drop, H: Helper + Drop, S: History + Drop> Editor<O, H, S> {
     /// line are kept for the next one.
     ///
     /// # Errors
-    /// `Io`, where the output, the helper or the history fails, and `Memory`. The line, whose text
-    /// `line` returns, goes on at the next call.
+    /// `Io` if the output, a handler, the helper or the history fails, and `Memory` if memory runs
+    /// out. The line goes on at the next call; `line` returns its text, which may be another. The
+    /// history's lines stay. How many of the bytes were read is not specified.
     pub fn feed<C: ConditionalEventHandler>(
         &mut self,
         bytes: &[u8],
@@ -394,7 +395,7 @@ impl<O: Write + Drop, H: Helper + Drop, S: History + Drop> Editor<O, H, S> {
     /// byte ends what has not ended: a pasted text, a control string, a sequence.
     ///
     /// # Errors
-    /// Those of `feed`.
+    /// As `feed`: the line goes on at the next call, and its text may be another.
     pub fn flush<C: ConditionalEventHandler>(&mut self, bindings: &Bindings<C>) -> Result<Fed>
         ensures { let g = C.ConditionalEventHandler in
             Feeds (answers_of H.hint_at H.verdict_at H.lights H.Completer)
@@ -406,7 +407,7 @@ impl<O: Write + Drop, H: Helper + Drop, S: History + Drop> Editor<O, H, S> {
     /// Settles what bytes have begun, as no more come at all.
     ///
     /// # Errors
-    /// Those of `feed`.
+    /// As `feed`: the line goes on at the next call, and its text may be another.
     pub fn finish<C: ConditionalEventHandler>(&mut self, bindings: &Bindings<C>) -> Result<Fed>
         ensures { let g = C.ConditionalEventHandler in
             Feeds (answers_of H.hint_at H.verdict_at H.lights H.Completer)
@@ -418,7 +419,7 @@ impl<O: Write + Drop, H: Helper + Drop, S: History + Drop> Editor<O, H, S> {
     /// Does what `feed`, `flush` or `finish` does, by what is heard.
     ///
     /// # Errors
-    /// Those of `feed`.
+    /// As `feed`: the line goes on at the next call, and its text may be another.
     pub fn hear<C: ConditionalEventHandler>(
         &mut self,
         heard: Heard<'_>,
@@ -437,7 +438,7 @@ impl<O: Write + Drop, H: Helper + Drop, S: History + Drop> Editor<O, H, S> {
     /// more, where the settings say so. Keys that were typed ahead are kept.
     ///
     /// # Errors
-    /// `Io`, where the output fails. The line goes on then, and is drawn at the next call.
+    /// `Io` if the output fails. All stays, but the line that goes on is drawn at the next call.
     pub fn abandon(&mut self) -> Result<()>
         ensures gone { OnOk result (self.new ≡ record self.old { line = None }) }
         ensures kept { OnErr result (self.new ≡ to_be_drawn self.old) }
@@ -453,8 +454,8 @@ impl<O: Write + Drop, H: Helper + Drop, S: History + Drop> Editor<O, H, S> {
     /// if one has.
     ///
     /// # Errors
-    /// `Io`, where the output fails, and `Memory`. Columns and rows are the new ones then, and the
-    /// line is drawn at the next call.
+    /// `Io` if the output fails, and `Memory` if memory runs out. Columns and rows are then the new
+    /// ones. The line stays, and is drawn at the next call.
     pub fn resize(&mut self, columns: Unit, rows: Unit) -> Result<()>
         requires { 0 < columns }
         ensures written { written_so_far self.new ≡ written_so_far self.old }
@@ -486,10 +487,10 @@ impl<O: Write + Drop, H: Helper + Drop, S: History + Drop> Editor<O, H, S> {
     /// says so, as on a terminal that waits only for a while, and else the end of the input.
     ///
     /// # Errors
-    /// `Eof`, where the input ends, or by a command on an empty line; `Interrupted`, where the
-    /// person interrupts: no line goes on then. `Io`, where the input, the output, the helper or
-    /// the history fails, and `Memory`: `line` and `pos` then return the line, which can be handed
-    /// to `begin_with`, or, if it could not begin, the one before, if there was one.
+    /// `Eof` if the input ends, or by a command on an empty line; `Interrupted` if the person
+    /// interrupts: no line goes on then. `Io` if the input, the output, a handler, the helper or
+    /// the history fails, and `Memory` if memory runs out: `line` and `pos` then return the line,
+    /// or, if it could not begin, the one before. Hand it to `begin_with` to go on.
     pub fn readline<R: Read, P: Prompt, C: ConditionalEventHandler>(
         &mut self,
         input: &mut R,
@@ -510,7 +511,7 @@ impl<O: Write + Drop, H: Helper + Drop, S: History + Drop> Editor<O, H, S> {
     /// Reads a line as `readline` does, which begins with these texts before and after the cursor.
     ///
     /// # Errors
-    /// Those of `readline`.
+    /// As `readline`: after `Io` and `Memory` the line goes on, or else the one before, if any.
     pub fn readline_with_initial<R: Read, P: Prompt, C: ConditionalEventHandler>(
         &mut self,
         input: &mut R,
@@ -555,8 +556,8 @@ impl<O: Write + Drop, H: Helper + Drop, S: History + Drop> Editor<O, H, S> {
     /// Returns what a line is answered with. No line goes on then.
     ///
     /// # Errors
-    /// `Eof`, where the line goes on or ended; `Interrupted`; and `Io` and `Memory`, where
-    /// bracketed paste cannot be turned off. The line then goes on.
+    /// `Eof` if the line goes on or has ended, and `Interrupted`: no line goes on then. `Io` if the
+    /// output fails: the line goes on, and is drawn at the next call.
     fn answered(&mut self, fed: Fed) -> Result<String>
         ensures { UnlessFault result ((result ≡ readline_answer fed)
             × (self.new ≡ record self.old { line = None })) }
@@ -578,7 +579,8 @@ impl<O: Write + Drop, H: Helper + Drop, S: History + Drop> Editor<O, H, S> {
     /// then, and whether the input goes on.
     ///
     /// # Errors
-    /// `Io`, where the input, the output, the helper or the history fails, and `Memory`.
+    /// `Io` if the input, the output, a handler, the helper or the history fails, and `Memory` if
+    /// memory runs out. The line goes on, and its text may be another.
     fn read_on<R: Read, C: ConditionalEventHandler>(
         &mut self,
         input: &mut R,
@@ -639,7 +641,7 @@ impl<O: Write + Drop, H: Helper + Drop, S: History + Drop> Editor<O, H, S> {
     /// they are marked.
     ///
     /// # Errors
-    /// `Io`, where the output fails. The line that has begun is drawn at the next call then.
+    /// `Io` if the output fails. All stays, but the line that has begun is drawn at the next call.
     fn mark_pastes(&mut self, marked: bool) -> Result<()>
         ensures stays { OnOk result (self.new ≡ self.old) }
         ensures failed { OnErr result (self.new ≡ to_be_drawn self.old) }

@@ -56,8 +56,9 @@ pub enum Reply {
 /// Lists candidates above the line; where they are more than the settings' limit, it asks first.
 ///
 /// # Errors
-/// Those of the output and of the helper's hints: `Io` and `Memory`. The line is drawn below what
-/// there is of the list then.
+/// `Io` if the output, the helper or the history fails, and `Memory` if memory runs out. The line,
+/// its changes and the hint may then be any, and so may what the screen shows. A part of the list
+/// may have been written: draw the line again, below it.
 pub(crate) fn list<E: Modal>(candidates: Vec<Pair>, state: &mut E, config: &Config) -> Result<Mode>
     ensures lists { IfOk result (Lists config.now (E.environment state.old) candidates
         (E.draft state.old) (E.draft state.new)) }
@@ -113,7 +114,8 @@ impl Listing {
     /// Answers an item: lists more, or ends the list and draws the line below it.
     ///
     /// # Errors
-    /// Those of `list`.
+    /// As `list`: the line, its changes and the hint may be any. A part of the list may have been
+    /// written: draw the line again, below it.
     pub(crate) fn answer<E: Modal>(self, item: &AsItIs, state: &mut E) -> Result<Mode>
         ensures reply { IfOk result (Replies (E.environment state.old) self
             (reply_by self.next (item_as_it_is item.now)) (E.draft state.old) (E.draft state.new)) }

@@ -97,7 +97,8 @@ impl SearchCmd {
 /// history it only beeps.
 ///
 /// # Errors
-/// Those of the helper and of the output: `Io` and `Memory`.
+/// `Io` if the output, the helper or the history fails, and `Memory` if memory runs out. The line,
+/// its changes and the hint may then be any, and so may what the screen shows.
 pub(crate) fn search<E: Modal>(
     alloc: Global,
     direction: SearchDirection,
@@ -136,8 +137,8 @@ impl Searching {
     /// Does what a command says to the search, and draws. Returns what the next items are read as.
     ///
     /// # Errors
-    /// Those of the history, the helper and the output: `Io` and `Memory`. The line is then as it
-    /// was, the one from before the search, or the one that was found.
+    /// `Io` if the output, the helper or the history fails, and `Memory` if memory runs out. The
+    /// line, its changes and the hint may then be any, and so may what the screen shows.
     pub(crate) fn take<E: Modal>(mut self, command: SearchCmd, state: &mut E) -> Result<Mode>
         ensures takes { IfOk result (Searches (E.environment state.old) (search_value self) command
             (E.draft state.old) (E.draft state.new)) }
@@ -286,7 +287,8 @@ impl Searching {
     /// Draws the line after the prompt of the search.
     ///
     /// # Errors
-    /// Those of the helper and of the output: `Io` and `Memory`.
+    /// `Io` if the output, the helper or the history fails, and `Memory` if memory runs out. The
+    /// line, its changes and the hint may then be any, and so may what the screen shows.
     pub(crate) fn draw<E: Modal>(&self, alloc: Global, state: &mut E) -> Result<()>
         ensures draft { OnOk result (E.draft state.new ≡ hinted (E.environment state.old)
             (E.draft state.old)) }

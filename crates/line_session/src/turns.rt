@@ -48,9 +48,11 @@ use std::mem;
 /// the items after it are left for the next call, which draws the line first.
 ///
 /// # Errors
-/// Those of `take_turn`, of the helper and of drawing the line. An item that was taken is not taken
-/// again; and unless drawing the line failed at the first, commands are read next: a completion, a
-/// list, a search and a quoted insert have ended.
+/// `Io` if the output, a handler, the helper or the history fails, and `Memory` if memory runs out.
+/// The line, its changes, the hint and the kill ring may then be any, and so may what the screen
+/// shows. The kill ring keeps its size. An item that was taken is not taken again. Unless the first
+/// drawing failed, commands are read next: a completion, a list, a search and a quoted insert have
+/// ended.
 pub(crate) fn take_turns<
     'out,
     'prompt,
@@ -101,7 +103,9 @@ pub(crate) fn take_turns<
 /// then.
 ///
 /// # Errors
-/// Those of the helper and of the output: `Io` and `Memory`. The mode is as it was.
+/// `Io` if the output, the helper or the history fails, and `Memory` if memory runs out. The mode
+/// is then as it was. The line, its changes and the hint may be any, and so may what the screen
+/// shows.
 fn draw_first<E: Modal>(alloc: Global, draws: bool, mode: &mut Mode, state: &mut E) -> Result<()>
     ensures starts { (input : Input) (items : List Item) (kills : Ring) →
         OnOk result (starting (E.environment state.old) draws
@@ -127,7 +131,8 @@ fn draw_first<E: Modal>(alloc: Global, draws: bool, mode: &mut Mode, state: &mut
 /// Draws the line of a program that goes on: below what the terminal shows meanwhile.
 ///
 /// # Errors
-/// Those of the helper and of the output: `Io` and `Memory`.
+/// `Io` if the output, the helper or the history fails, and `Memory` if memory runs out. The line,
+/// its changes and the hint may then be any, and so may what the screen shows.
 fn resume<E: Modal>(alloc: Global, state: &mut E) -> Result<()>
     ensures draft { OnOk result (E.draft state.new ≡ hinted (E.environment state.old)
         (E.draft state.old)) }
@@ -142,7 +147,8 @@ fn resume<E: Modal>(alloc: Global, state: &mut E) -> Result<()>
 /// Draws the line: in a search after its prompt, and else after its own.
 ///
 /// # Errors
-/// Those of the helper and of the output: `Io` and `Memory`.
+/// `Io` if the output, the helper or the history fails, and `Memory` if memory runs out. The line,
+/// its changes and the hint may then be any, and so may what the screen shows.
 fn draw<E: Modal>(alloc: Global, mode: &Mode, state: &mut E) -> Result<()>
     ensures draft { OnOk result (E.draft state.new ≡ hinted (E.environment state.old)
         (E.draft state.old)) }
@@ -219,7 +225,7 @@ fn turns<
 /// nothing, where it is read as part of a command, nothing is left, or the program is suspended.
 ///
 /// # Errors
-/// `Io` and `Memory`.
+/// `Memory` if memory runs out, and `Io` if the queue fails. Nothing is then taken.
 fn next_as_it_is(mode: &Mode, keys: &mut KeyQueue) -> Result<Option<AsItIs>>
     ensures takes { IfOk result (λ taken.
         TakesAsItIs mode.now (option_map item_as_it_is taken) keys.old.rest keys.new.rest) }
@@ -247,7 +253,9 @@ fn next_as_it_is(mode: &Mode, keys: &mut KeyQueue) -> Result<Option<AsItIs>>
 /// Takes one turn, of keys that are read as a command. Returns how it ended.
 ///
 /// # Errors
-/// Those of `take_turn`, of the helper, the history and the output.
+/// `Io` if the output, a handler, the helper or the history fails, and `Memory` if memory runs out.
+/// The line, its changes, the hint, the mode, the kill ring and the items that are left may then be
+/// any, and so may what the screen shows. The kill ring keeps its size.
 fn turn<
     'out,
     'prompt,
@@ -462,7 +470,9 @@ fn do_in_search<
 /// is asked to suspend itself. Another command ends what had begun.
 ///
 /// # Errors
-/// Those of the helper and of the output: `Io` and `Memory`.
+/// `Io` if the output, the helper or the history fails, and `Memory` if memory runs out. Commands
+/// are then read next. The line, its changes and the hint may be any, and so may what the screen
+/// shows.
 fn answer<E: Modal>(
     alloc: Global,
     left: Option<Left>,
@@ -564,7 +574,9 @@ fn suspend<E: Modal>(alloc: Global, state: &mut E) -> Result<Mode>
 /// Takes an item by itself: it answers a list, or is put in as it is.
 ///
 /// # Errors
-/// Those of `execute`, and those of the output: `Io` and `Memory`.
+/// `Io` if the output, the helper or the history fails, and `Memory` if memory runs out. Commands
+/// are then read next. The line, its changes, the hint and the kill ring may be any, and so may
+/// what the screen shows. The kill ring keeps its size.
 fn take_item<
     'out,
     'prompt,
@@ -610,7 +622,8 @@ fn take_item<
 /// Puts in an item as it is.
 ///
 /// # Errors
-/// Those of `execute`.
+/// As `execute`, but neither `Eof` nor `Interrupted`. The line, its changes, the hint and the kill
+/// ring may then be any, and so may what the screen shows. The kill ring keeps its size.
 fn put_in<
     'out,
     'prompt,

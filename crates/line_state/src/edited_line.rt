@@ -23,8 +23,9 @@ use std::marker::Model;
 /// the text it began with.
 ///
 /// # Errors
-/// Each call that grows the text or the changes may run out of memory. Then there are no changes to
-/// undo, and the line may be any text with its cursor on a boundary.
+/// `OutOfMemory` if memory runs out, in each call that grows the text or the changes. There are
+/// then no changes to undo, and the line may be any text with its cursor on a boundary, if the call
+/// does not say otherwise.
 pub struct EditedLine {
     line: LineBuffer,
     changes: Changeset,
@@ -66,7 +67,7 @@ impl EditedLine {
     /// Returns a line with no changes: a text with the cursor at byte `pos` of it.
     ///
     /// # Errors
-    /// `OutOfMemory` alone.
+    /// `OutOfMemory` if memory runs out.
     pub fn with_line(alloc: Global, text: &str, pos: usize) -> Result<Self, OutOfMemory>
         requires { IsCharBoundary text.now pos }
         ensures { IfOk result (λ e. e
@@ -88,8 +89,8 @@ impl EditedLine {
     /// Inserts `n` copies of a character at the cursor, which then stands after them.
     ///
     /// # Errors
-    /// `OutOfMemory` alone. The line may then be any text with its cursor on a boundary, and there
-    /// are no changes to undo.
+    /// `OutOfMemory` if memory runs out. There are then no changes to undo, and the line may be any
+    /// text with its cursor on a boundary.
     pub fn insert(&mut self, c: char, n: RepeatCount) -> Result<(), OutOfMemory>
         ensures { EditsTo result self.old self.new (with_copies n c self.old) }
     {
@@ -108,9 +109,9 @@ impl EditedLine {
     /// Kills the text of a movement, and keeps it in `kill_ring` as `LineBuffer::cut` does.
     ///
     /// # Errors
-    /// `OutOfMemory` alone. The line may then be any text with its cursor on a boundary, and there
-    /// are no changes to undo. `kill_ring` is then the one that the kill leaves, or the one from
-    /// before with a kill as its last action.
+    /// `OutOfMemory` if memory runs out. There are then no changes to undo, and the line may be any
+    /// text with its cursor on a boundary. `kill_ring` is the one that the kill leaves, or the one
+    /// from before with a kill as its last action.
     pub fn kill(&mut self, movement: &Movement, kill_ring: &mut KillRing) -> Result<(), OutOfMemory>
         ensures edit { let range = killed_range self.old.line movement.now in
             EditsTo result self.old self.new (without_range range self.old) }
@@ -129,7 +130,7 @@ impl EditedLine {
     /// Returns a copy of the text of a movement, if it has one.
     ///
     /// # Errors
-    /// That memory ran out.
+    /// `OutOfMemory` if memory runs out.
     pub fn copy(&self, movement: &Movement) -> Result<Option<String>, OutOfMemory>
         ensures { IfOk result (λ r. option_map string_bytes r
             ≡ text_in self.now.line.text (unless_empty (range_of self.now.line movement.now))) }
@@ -141,8 +142,8 @@ impl EditedLine {
     /// the text was taken back.
     ///
     /// # Errors
-    /// `OutOfMemory` alone. The line may then be any text with its cursor on a boundary, and there
-    /// are no changes to undo.
+    /// `OutOfMemory` if memory runs out. There are then no changes to undo, and the line may be any
+    /// text with its cursor on a boundary.
     pub fn undo(&mut self, n: RepeatCount) -> Result<bool, OutOfMemory>
         ensures finds { FindsToEdit result self.old self.new (undone n self.old)
             (list_any is_change (newest_steps n self.old.changes.entries)) }
@@ -154,7 +155,7 @@ impl EditedLine {
     /// Opens a group of changes.
     ///
     /// # Errors
-    /// `OutOfMemory` alone. The line stays, and there are then no changes to undo.
+    /// `OutOfMemory` if memory runs out. The line then stays, and there are no changes to undo.
     pub fn begin_group(&mut self) -> Result<(), OutOfMemory>
         ensures edit { EditsTo result self.old self.new
             (record self.old { changes = begun self.old.changes }) }
@@ -166,7 +167,7 @@ impl EditedLine {
     /// Closes every open group of changes. Returns whether an entry was added for it.
     ///
     /// # Errors
-    /// `OutOfMemory` alone. The line stays, and there are then no changes to undo.
+    /// `OutOfMemory` if memory runs out. The line then stays, and there are no changes to undo.
     pub fn end_groups(&mut self) -> Result<bool, OutOfMemory>
         ensures answer { IfOk result (λ added.
             added ≡ adds_end self.old.changes.open_groups self.old.changes.entries) }
@@ -181,7 +182,7 @@ impl EditedLine {
     /// group was begun or a text deleted since.
     ///
     /// # Errors
-    /// That memory ran out.
+    /// `OutOfMemory` if memory runs out.
     pub fn last_insert(&self) -> Result<Option<String>, OutOfMemory>
         ensures { IfOk result (λ r.
             option_map string_bytes r ≡ last_insert_of self.now.changes.entries) }

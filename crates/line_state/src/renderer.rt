@@ -15,12 +15,16 @@ use line_parts::Highlighter;
 
 /// Draws the prompt, the line and the cursor, and says where a text ends.
 ///
-/// Only a `refresh_line` that succeeds changes the count of full redraws, by one. A beep, a text
-/// that `write_and_flush` writes, and a synchronized update are what a renderer does beside
-/// drawing; each call says which of them it may do.
+/// A `refresh_line` that succeeds raises the count of full redraws by one; one that fails may leave
+/// any count. No other call changes it. A beep, a text that `write_and_flush` writes, and a
+/// synchronized update are what a renderer does beside drawing; each call says which of them it may
+/// do.
 ///
 /// # Errors
-/// An error of input or output, and then the count of failures has risen; or that memory ran out.
+/// `Io` if input or output fails, and the count of failures has then risen, if it was not at its
+/// greatest value. `Memory` if memory runs out, and that count then stays. Columns, rows, colors
+/// and how texts are measured stay in any case. What the screen shows after an error is specified
+/// only where the call says so.
 pub trait Renderer: ScreenState {
     /// What reads the keys of this terminal.
     type Reader: RawReader;

@@ -6,8 +6,9 @@ ghost use Rattle.line_state.specs.ScreenState.{ResizesTo};
 use crate::renderer::Renderer;
 use line_buffer::Unit;
 
-/// A renderer whose screen can be given another size. Only `State::resized` and `View::resized` ask
-/// for it: a renderer for a screen that keeps its size has no need of it.
+/// A renderer whose screen can be given another size. `View::resized` and `State::resized` ask for
+/// it, and so does `Editor::resize` of `line_session`. A renderer for a screen that keeps its size
+/// has no need of it.
 pub trait Resizable: Renderer {
     /// Gives the screen another number of columns and of rows. Nothing is drawn, and the cursor
     /// counts as standing where it stood. What is known of it then is not specified: a full redraw

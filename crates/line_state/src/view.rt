@@ -138,7 +138,8 @@ impl<'out, 'prompt, W: Renderer, P: Prompt> View<'out, 'prompt, W, P> {
     /// highlighter only where colors are shown.
     ///
     /// # Errors
-    /// Those of the renderer.
+    /// `Io` if the renderer fails, and `Memory` if memory runs out. The kept layout then stays.
+    /// What the screen shows is not specified: a full redraw is to follow.
     pub fn refresh_line<H: Highlighter>(
         &mut self,
         line: &LineBuffer,
@@ -164,7 +165,8 @@ impl<'out, 'prompt, W: Renderer, P: Prompt> View<'out, 'prompt, W, P> {
     /// highlighter only where colors are shown.
     ///
     /// # Errors
-    /// Those of the renderer.
+    /// `Io` if the renderer fails, and `Memory` if memory runs out. The kept layout then stays.
+    /// What the screen shows is not specified: a full redraw is to follow.
     pub fn refresh_prompt_and_line<H: Highlighter>(
         &mut self,
         prompt: &str,
@@ -223,7 +225,8 @@ impl<'out, 'prompt, W: Renderer, P: Prompt> View<'out, 'prompt, W, P> {
     /// and keeps it. Pass a highlighter only where colors are shown.
     ///
     /// # Errors
-    /// Those of the renderer.
+    /// `Io` if the renderer fails, and `Memory` if memory runs out. The kept layout then stays.
+    /// What the screen shows is not specified: a full redraw is to follow.
     pub fn repaint_kept<H: Highlighter>(
         &mut self,
         line: &LineBuffer,
@@ -348,7 +351,8 @@ impl<'out, 'prompt, W: Renderer, P: Prompt> View<'out, 'prompt, W, P> {
     /// it is there already.
     ///
     /// # Errors
-    /// Those of the renderer.
+    /// `Io` if the renderer fails, and `Memory` if memory runs out. The kept layout then stays.
+    /// Where the screen cursor stands is not specified: a full redraw is to follow.
     pub fn move_cursor(&mut self, position: Position) -> Result<()>
         ensures moved { let d = ⟦<Self as Drawn>⟧.display in
             GoesToPosition result (d self.old) (d self.new) position }
@@ -371,7 +375,8 @@ impl<'out, 'prompt, W: Renderer, P: Prompt> View<'out, 'prompt, W, P> {
     /// Moves the screen cursor to where what is shown ends, a text after the line included.
     ///
     /// # Errors
-    /// Those of the renderer.
+    /// `Io` if the renderer fails, and `Memory` if memory runs out. The kept layout then stays.
+    /// Where the screen cursor stands is not specified: a full redraw is to follow.
     pub fn move_cursor_to_end(&mut self) -> Result<()>
         ensures moved { let d = ⟦<Self as Drawn>⟧.display in
             GoesToShownEnd result (d self.old) (d self.new) }
@@ -410,7 +415,8 @@ impl<'out, 'prompt, W: Renderer, P: Prompt> View<'out, 'prompt, W, P> {
     /// column left after it. The kept cursor and end move one column on.
     ///
     /// # Errors
-    /// Those of the renderer.
+    /// `Io` if the renderer fails, and `Memory` if memory runs out. The kept layout then stays.
+    /// What the screen shows is not specified: a full redraw is to follow.
     pub fn write_char(&mut self, c: char) -> Result<()>
         requires printable { is_printable c ≡ true }
         requires free { let d = ⟦<Self as Drawn>⟧.display self.old in
@@ -434,7 +440,9 @@ impl<'out, 'prompt, W: Renderer, P: Prompt> View<'out, 'prompt, W, P> {
     /// kept end. The kept cursor and end move to where they began.
     ///
     /// # Errors
-    /// Those of the renderer.
+    /// `Io` if the renderer fails, and `Memory` if memory runs out. The kept cursor may then have
+    /// moved; all else of the kept layout stays. What the screen shows is not specified: a full
+    /// redraw is to follow.
     pub fn take_back(&mut self, count: usize) -> Result<()>
         requires { count ≤ (⟦<Self as Drawn>⟧.display self.old).layout.end.col }
         ensures { TakesBack ⟦<Self as Drawn>⟧ result self.old self.new count }
@@ -478,7 +486,8 @@ impl<'out, 'prompt, W: Renderer, P: Prompt> View<'out, 'prompt, W, P> {
     /// Tells the person that nothing could be done. Nothing drawn changes.
     ///
     /// # Errors
-    /// Those of the renderer.
+    /// `Io` if the renderer fails, and `Memory` if memory runs out. The kept layout and what the
+    /// screen shows then stay.
     pub fn beep(&mut self) -> Result<()>
         ensures display { let d = ⟦<Self as Drawn>⟧.display in d self.new ≡ d self.old }
         ensures beside { let d = ⟦<Self as Drawn>⟧ in
@@ -492,7 +501,8 @@ impl<'out, 'prompt, W: Renderer, P: Prompt> View<'out, 'prompt, W, P> {
     /// row. What is shown then is not specified: a full redraw is to follow.
     ///
     /// # Errors
-    /// Those of the renderer. Then the kept layout stays.
+    /// `Io` if the renderer fails, and `Memory` if memory runs out. The kept layout then stays.
+    /// What the screen shows is not specified: a full redraw is to follow.
     pub fn clear_screen(&mut self) -> Result<()>
         ensures layout { let d = ⟦<Self as Drawn>⟧.display in
             OnOk result ((d self.new).layout ≡ cleared (d self.old).layout) }
@@ -513,7 +523,8 @@ impl<'out, 'prompt, W: Renderer, P: Prompt> View<'out, 'prompt, W, P> {
     /// specified, and the kept layout stays.
     ///
     /// # Errors
-    /// Those of the renderer.
+    /// `Io` if the renderer fails, and `Memory` if memory runs out. The kept layout then stays.
+    /// What the screen shows is not specified: a full redraw is to follow.
     pub fn move_cursor_at_leftmost(&mut self, rdr: &mut W::Reader) -> Result<()>
         ensures layout { let d = ⟦<Self as Drawn>⟧.display in
             (d self.new).layout ≡ (d self.old).layout }
@@ -530,7 +541,9 @@ impl<'out, 'prompt, W: Renderer, P: Prompt> View<'out, 'prompt, W, P> {
     /// text.
     ///
     /// # Errors
-    /// Those of the renderer.
+    /// `Io` if the renderer fails, and `Memory` if memory runs out. The kept layout then stays. How
+    /// much of the text was written, and what the screen shows, is not specified: a full redraw is
+    /// to follow.
     pub fn write_above(&mut self, text: &str, rdr: &mut W::Reader) -> Result<()>
         ensures layout { let d = ⟦<Self as Drawn>⟧.display in
             (d self.new).layout ≡ (d self.old).layout }
@@ -600,7 +613,9 @@ impl<'out, 'prompt, W: Resizable, P: Prompt> View<'out, 'prompt, W, P> {
     /// layout are cleared. Pass a highlighter only where colors are shown.
     ///
     /// # Errors
-    /// Those of the renderer. Then the kept layout stays, which is that of the old columns.
+    /// `Io` if the renderer fails, and `Memory` if memory runs out. Columns and rows are then the
+    /// new ones, and the prompt is measured anew. The kept layout is still that of the old columns.
+    /// What the screen shows is not specified: a full redraw is to follow.
     pub fn resized<H: Highlighter>(
         &mut self,
         columns: Unit,

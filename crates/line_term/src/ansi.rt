@@ -213,7 +213,8 @@ impl<O: Write + Drop, R: RawReader> Ansi<O, R> {
     /// Asks the terminal to put marks round a text that is pasted.
     ///
     /// # Errors
-    /// `Io`, where the output fails. A full redraw is to follow then.
+    /// `Io` if the output fails. What is kept of the screen then stays, but may no longer be what
+    /// the terminal shows: a full redraw is to follow.
     pub fn enable_bracketed_paste(&mut self) -> Result<()>
         ensures writes { WritesAside ⟦<Self as ScreenState>⟧ ⟦<Self as Output>⟧ result
             self.old self.new paste_marked }
@@ -231,7 +232,8 @@ impl<O: Write + Drop, R: RawReader> Ansi<O, R> {
     /// Asks the terminal to hand on a pasted text as if it were typed.
     ///
     /// # Errors
-    /// `Io`, where the output fails. A full redraw is to follow then.
+    /// `Io` if the output fails. What is kept of the screen then stays, but may no longer be what
+    /// the terminal shows: a full redraw is to follow.
     pub fn disable_bracketed_paste(&mut self) -> Result<()>
         ensures writes { WritesAside ⟦<Self as ScreenState>⟧ ⟦<Self as Output>⟧ result
             self.old self.new paste_typed }
@@ -255,8 +257,9 @@ impl<O: Write + Drop, R: RawReader> Renderer for Ansi<O, R> {
     /// Moves the cursor from `old`, where it stands, to `new`.
     ///
     /// # Errors
-    /// `Io`, where the output fails, and `Memory`. What is kept stays; after `Io` a part of the
-    /// bytes may have been written, and a full redraw is to follow.
+    /// `Io` if the output fails: a beginning of the bytes may then have been written. What is kept
+    /// of the screen stays, and a full redraw is to follow. `Memory` if memory runs out: nothing is
+    /// then written, and what is shown stays.
     fn move_cursor(&mut self, old: Position, new: Position) -> Result<()>
         ensures moved { OnOk result ((⟦<Self as ScreenState>⟧.screen self.new).position ≡ new) }
         ensures known { (⟦<Self as ScreenState>⟧.screen self.old).position ≡ old
@@ -282,8 +285,9 @@ impl<O: Write + Drop, R: RawReader> Renderer for Ansi<O, R> {
     /// Writes a full redraw. A highlighter is asked where colors are shown.
     ///
     /// # Errors
-    /// `Io`, where the output or the highlighter fails: what is shown is not known then. `Memory`:
-    /// nothing is written then, and what is shown stays.
+    /// `Io` if the output or the highlighter fails: what is shown is then not known, and a full
+    /// redraw is to follow. `Memory` if memory runs out: nothing is then written, and what is shown
+    /// stays. The count of full redraws stays after both.
     fn refresh_line<P: Prompt, H: Highlighter>(
         &mut self,
         prompt: &P,
@@ -368,8 +372,8 @@ impl<O: Write + Drop, R: RawReader> Renderer for Ansi<O, R> {
     /// Writes a text without colors at the cursor, which goes to its end.
     ///
     /// # Errors
-    /// `Io`, where the output fails: what is shown is not known then. `Memory`: nothing is written
-    /// then, and what is shown stays.
+    /// `Io` if the output fails: what is shown is then not known, and a full redraw is to follow.
+    /// `Memory` if memory runs out: nothing is then written, and what is shown stays.
     fn write_and_flush(&mut self, buf: &str) -> Result<()>
         ensures shown { (c : ℕ) → buf.now ≡ c ∷ [] → is_printable c ≡ true
             → HasRoom (⟦<Self as ScreenState>⟧.surface self.old)

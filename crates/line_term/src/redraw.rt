@@ -18,8 +18,8 @@ use std::alloc::Global;
 /// Appends the bytes of a full redraw, which is shown all at once where this is wanted.
 ///
 /// # Errors
-/// `Io`, where the highlighter fails, and `Memory`. A beginning of the bytes may have been
-/// appended.
+/// `Io` if the highlighter fails, and `Memory` if memory runs out. A beginning of the bytes may
+/// then have been appended.
 pub(crate) fn push_redraw<P: Prompt, H: Highlighter, R: RawReader>(
     bytes: &mut String,
     alloc: Global,
@@ -68,7 +68,7 @@ pub(crate) fn push_redraw<P: Prompt, H: Highlighter, R: RawReader>(
 /// Appends the bytes of a drawing.
 ///
 /// # Errors
-/// Those of `push_redraw`.
+/// As `push_redraw`: a beginning of the bytes may have been appended.
 fn push_drawing<P: Prompt, H: Highlighter, R: RawReader>(
     bytes: &mut String,
     alloc: Global,

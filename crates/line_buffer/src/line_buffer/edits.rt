@@ -22,8 +22,8 @@ impl LineBuffer {
     ///
     /// # Errors
     ///
-    /// `OutOfMemory` where an allocation fails; then the list of changes is empty with no open
-    /// group, and the line is text with its cursor on a boundary.
+    /// `OutOfMemory` if memory runs out. The list of changes is then empty, with no open group, and
+    /// the line may be any text with its cursor on a boundary.
     pub fn insert(
         &mut self,
         c: char,
@@ -108,8 +108,8 @@ impl LineBuffer {
     ///
     /// # Errors
     ///
-    /// `OutOfMemory` where an allocation fails; then the list of changes is empty with no open
-    /// group, and the line is text with its cursor on a boundary.
+    /// `OutOfMemory` if memory runs out. The list of changes is then empty, with no open group, and
+    /// the line may be any text with its cursor on a boundary.
     pub fn insert_str(
         &mut self,
         place: usize,
@@ -135,8 +135,8 @@ impl LineBuffer {
     ///
     /// # Errors
     ///
-    /// `OutOfMemory` where an allocation fails; then the list of changes is empty with no open
-    /// group, and the line is text with its cursor on a boundary.
+    /// `OutOfMemory` if memory runs out. The list of changes is then empty, with no open group, and
+    /// the line may be any text with its cursor on a boundary.
     pub fn yank(
         &mut self,
         text: &str,
@@ -181,8 +181,8 @@ impl LineBuffer {
     ///
     /// # Errors
     ///
-    /// `OutOfMemory` where an allocation fails; then the list of changes is empty with no open
-    /// group, and the line is text with its cursor on a boundary.
+    /// `OutOfMemory` if memory runs out. The list of changes is then empty, with no open group, and
+    /// the line may be any text with its cursor on a boundary.
     pub fn yank_pop(
         &mut self,
         size: usize,
@@ -207,8 +207,8 @@ impl LineBuffer {
     ///
     /// # Errors
     ///
-    /// `OutOfMemory` where an allocation fails; then the list of changes is empty with no open
-    /// group, and the line is text with its cursor on a boundary.
+    /// `OutOfMemory` if memory runs out. The list of changes is then empty, with no open group, and
+    /// the line may be any text with its cursor on a boundary.
     pub fn update(
         &mut self,
         text: &str,
@@ -233,8 +233,8 @@ impl LineBuffer {
     ///
     /// # Errors
     ///
-    /// `OutOfMemory` where an allocation fails; then the list of changes is empty with no open
-    /// group, and the line is text with its cursor on a boundary.
+    /// `OutOfMemory` if memory runs out. The list of changes is then empty, with no open group, and
+    /// the line may be any text with its cursor on a boundary.
     pub fn replace(
         &mut self,
         range: Range<usize>,

@@ -24,8 +24,8 @@ impl LineBuffer {
     ///
     /// # Errors
     ///
-    /// `OutOfMemory` where an allocation fails; then the list of changes is empty with no open
-    /// group, and the line is text with its cursor on a boundary.
+    /// `OutOfMemory` if memory runs out. The list of changes is then empty, with no open group, and
+    /// the line may be any text with its cursor on a boundary.
     pub fn indent(
         &mut self,
         mvt: &Movement,

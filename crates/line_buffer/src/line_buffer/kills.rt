@@ -25,9 +25,9 @@ impl LineBuffer {
     ///
     /// # Errors
     ///
-    /// `OutOfMemory` where an allocation fails; then the list of changes is empty with no open
-    /// group, the line is text with its cursor on a boundary, and the kill ring is as before but
-    /// for its last action, or as the kill leaves it.
+    /// `OutOfMemory` if memory runs out. The list of changes is then empty, with no open group, and
+    /// the line may be any text with its cursor on a boundary. The kill ring is as the kill leaves
+    /// it, or as before with a kill as its last action.
     pub fn kill(
         &mut self,
         mvt: &Movement,
@@ -70,9 +70,9 @@ impl LineBuffer {
     ///
     /// # Errors
     ///
-    /// `OutOfMemory` where an allocation fails; then the list of changes is empty with no open
-    /// group, the line is text with its cursor on a boundary, and the kill ring is as before but
-    /// for its last action, or as the kill leaves it.
+    /// `OutOfMemory` if memory runs out. The list of changes is then empty, with no open group, and
+    /// the line may be any text with its cursor on a boundary. The kill ring is as the kill leaves
+    /// it, or as before with a kill as its last action.
     pub fn cut(
         &mut self,
         mvt: &Movement,
@@ -125,8 +125,8 @@ impl LineBuffer {
     ///
     /// # Errors
     ///
-    /// `OutOfMemory` where an allocation fails; then the list of changes is empty with no open
-    /// group, and the line is text with its cursor on a boundary.
+    /// `OutOfMemory` if memory runs out. The list of changes is then empty, with no open group, and
+    /// the line may be any text with its cursor on a boundary.
     pub fn delete(
         &mut self,
         n: RepeatCount,
@@ -151,8 +151,8 @@ impl LineBuffer {
     ///
     /// # Errors
     ///
-    /// `OutOfMemory` where an allocation fails; then the list of changes is empty with no open
-    /// group, and the line is text with its cursor on a boundary.
+    /// `OutOfMemory` if memory runs out. The list of changes is then empty, with no open group, and
+    /// the line may be any text with its cursor on a boundary.
     pub fn discard(&mut self, n: RepeatCount, changes: &mut Changeset) -> Result<bool, OutOfMemory>
         ensures answer { IfOk result (λ done. done ≡ is_some (place_on self.old n)) }
         ensures edit { let range = from_cursor self.old (place_on self.old n) in
@@ -173,7 +173,7 @@ impl LineBuffer {
     ///
     /// # Errors
     ///
-    /// `OutOfMemory` where an allocation fails.
+    /// `OutOfMemory` if memory runs out.
     pub fn copy(&self, mvt: &Movement) -> Result<Option<String>, OutOfMemory>
         ensures { IfOk result (λ r. option_map string_bytes r
             ≡ text_in self.now.text (unless_empty (range_of self.now mvt.now))) }

@@ -21,8 +21,8 @@ impl LineBuffer {
     ///
     /// # Errors
     ///
-    /// `OutOfMemory` where an allocation fails; then the list of changes is empty with no open
-    /// group, and the line is text with its cursor on a boundary.
+    /// `OutOfMemory` if memory runs out. The list of changes is then empty, with no open group, and
+    /// the line may be any text with its cursor on a boundary.
     pub fn transpose_chars(&mut self, changes: &mut Changeset) -> Result<bool, OutOfMemory>
         ensures answer { IfOk result (λ done. done ≡ has_two_chars self.old) }
         ensures edit { Edits result self.old self.new changes.old changes.new
@@ -82,8 +82,8 @@ impl LineBuffer {
     ///
     /// # Errors
     ///
-    /// `OutOfMemory` where an allocation fails; then the list of changes is empty with no open
-    /// group, and the line is text with its cursor on a boundary.
+    /// `OutOfMemory` if memory runs out. The list of changes is then empty, with no open group, and
+    /// the line may be any text with its cursor on a boundary.
     pub fn transpose_words(
         &mut self,
         n: RepeatCount,
@@ -141,8 +141,8 @@ impl LineBuffer {
     ///
     /// # Errors
     ///
-    /// `OutOfMemory` where an allocation fails; then the list of changes is empty with no open
-    /// group, and the line is text with its cursor on a boundary.
+    /// `OutOfMemory` if memory runs out. The list of changes is then empty, with no open group, and
+    /// the line may be any text with its cursor on a boundary.
     pub fn edit_word(
         &mut self,
         action: WordAction,

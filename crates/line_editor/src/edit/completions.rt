@@ -26,7 +26,7 @@ impl<'out, 'prompt, W: Renderer, H: Helper, P: Prompt, S: History> State<
     /// and the helper's candidates for it. Without a helper there are none.
     ///
     /// # Errors
-    /// Those of the helper: `Io` and `Memory`.
+    /// `Io` if the helper fails, or the history that it asks, and `Memory` if memory runs out.
     pub fn completions(&self) -> Result<(usize, Vec<H::Candidate>)>
         ensures start { let line = (⟦<Self as EditorState>⟧.draft self.now).line in
             IfOk result (λ r. BeginsIn line.text line.cursor r.0) }
@@ -44,8 +44,8 @@ impl<'out, 'prompt, W: Renderer, H: Helper, P: Prompt, S: History> State<
     /// is no character boundary at or before the cursor, nothing happens.
     ///
     /// # Errors
-    /// Those of the helper: `Io` and `Memory`. The line may then be any; the saved line, the
-    /// history index and the hint stay.
+    /// `Io` if the helper fails, and `Memory` if memory runs out. The line and its changes may then
+    /// be any. The saved line, the history index and the hint stay, and nothing is drawn.
     pub fn update_completion(&mut self, start: usize, elected: &str) -> Result<bool>
         ensures comes { let e = ⟦<Self as EditorState>⟧ in let d = e.draft in
             BeginsIn (d self.old).line.text (d self.old).line.cursor start → IfOk result (λ grown.
@@ -79,8 +79,8 @@ impl<'out, 'prompt, W: Renderer, H: Helper, P: Prompt, S: History> State<
     /// Takes the newest change back: a group of changes, or one that stands alone.
     ///
     /// # Errors
-    /// `Memory`. The line may then be any, without changes; the saved line, the history index and
-    /// the hint stay.
+    /// `Memory` if memory runs out. The line may then be any text, without changes. The saved line,
+    /// the history index and the hint stay, and nothing is drawn.
     pub fn take_back(&mut self) -> Result<()>
         ensures draft { let d = ⟦<Self as EditorState>⟧.draft in
             OnOk result (d self.new ≡ taken_back_once (d self.old)) }

@@ -38,7 +38,8 @@ impl<'out, 'prompt, W: Renderer, H: Helper, P: Prompt, S: History> State<
     /// and with the hint where the layout has one: it is for a screen that lost what it showed.
     ///
     /// # Errors
-    /// Those of the renderer.
+    /// `Io` if the renderer fails, and `Memory` if memory runs out. The line, its changes, the hint
+    /// and the kept layout then stay. What the screen shows is not specified: draw the line again.
     #[tactic(auto, using(crate::proofs::EditLemmas::shown_hint))]
     pub fn repaint(&mut self, kind: RefreshKind) -> Result<()>
         ensures shown { let e = ⟦<Self as EditorState>⟧ in kind ≡ RefreshKind.All
@@ -82,7 +83,8 @@ impl<'out, 'prompt, W: Renderer, H: Helper, P: Prompt, S: History> State<
     /// and what the screen shows is not specified: `refresh_line` is to follow.
     ///
     /// # Errors
-    /// Those of the renderer. Then the kept layout stays.
+    /// `Io` if the renderer fails, and `Memory` if memory runs out. The line, its changes, the hint
+    /// and the kept layout then stay. What the screen shows is not specified: draw the line again.
     pub fn clear_screen(&mut self) -> Result<()>
         ensures layout { let d = ⟦<Self as EditorState>⟧.display in
             OnOk result ((d self.new).layout ≡ cleared (d self.old).layout) }
@@ -97,7 +99,8 @@ impl<'out, 'prompt, W: Renderer, H: Helper, P: Prompt, S: History> State<
     /// and what the screen shows is not specified.
     ///
     /// # Errors
-    /// Those of the renderer.
+    /// `Io` if the renderer fails, and `Memory` if memory runs out. The line, its changes, the hint
+    /// and the kept layout then stay. What the screen shows is not specified: draw the line again.
     pub fn move_cursor_at_leftmost(&mut self, rdr: &mut W::Reader) -> Result<()>
         ensures layout { let d = ⟦<Self as EditorState>⟧.display in
             (d self.new).layout ≡ (d self.old).layout }
@@ -111,7 +114,9 @@ impl<'out, 'prompt, W: Renderer, H: Helper, P: Prompt, S: History> State<
     /// the line below a text that ends a row. After any other text, write an empty text first.
     ///
     /// # Errors
-    /// Those of the renderer.
+    /// `Io` if the renderer fails, and `Memory` if memory runs out. The line, its changes, the hint
+    /// and the kept layout then stay. How much of the text was written, and what the screen shows,
+    /// is not specified: draw the line again.
     pub fn write_above(&mut self, text: &str, rdr: &mut W::Reader) -> Result<()>
         ensures layout { let d = ⟦<Self as EditorState>⟧.display in
             (d self.new).layout ≡ (d self.old).layout }
@@ -145,8 +150,10 @@ impl<'out, 'prompt, W: Resizable, H: Helper, P: Prompt, S: History> State<
     /// them above.
     ///
     /// # Errors
-    /// Those of the renderer. Columns and rows are the new ones then, and the kept layout is the
-    /// old one: another full redraw is to follow.
+    /// `Io` if the renderer fails, and `Memory` if memory runs out. Columns and rows are then the
+    /// new ones, and the prompt is measured anew. The line, its changes, the hint and the history
+    /// index stay, and so does the kept layout, which is that of the old columns. Another full
+    /// redraw is to follow.
     #[tactic(auto, using(crate::proofs::EditLemmas::shown_hint))]
     pub fn resized(&mut self, columns: Unit, rows: Unit) -> Result<()>
         requires { 0 < columns }

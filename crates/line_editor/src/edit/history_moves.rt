@@ -44,7 +44,7 @@ impl<'out, 'prompt, W: Renderer, H: Helper, P: Prompt, S: History> State<
     /// Saves the line and its cursor, for the way back from the history.
     ///
     /// # Errors
-    /// That memory ran out. All then stays, the saved line too.
+    /// `Memory` if memory runs out. All then stays, the saved line too.
     pub fn backup(&mut self) -> Result<()>
         ensures draft { let d = ⟦<Self as EditorState>⟧.draft in OnOk result
             (d self.new ≡ record (d self.old) { saved = (d self.old).line }) }
@@ -61,8 +61,8 @@ impl<'out, 'prompt, W: Renderer, H: Helper, P: Prompt, S: History> State<
     /// Puts the saved line in place of the line, with its cursor. Nothing is drawn.
     ///
     /// # Errors
-    /// That memory ran out. Then the line has no changes; the saved line, the history index and the
-    /// hint stay.
+    /// `Memory` if memory runs out. The line may then be any text, without changes. The saved line,
+    /// the history index and the hint stay, and nothing is drawn.
     pub fn restore(&mut self) -> Result<()>
         ensures draft { let d = ⟦<Self as EditorState>⟧.draft in OnOk result
             (d self.new ≡ restored (d self.old)) }
@@ -86,9 +86,9 @@ impl<'out, 'prompt, W: Renderer, H: Helper, P: Prompt, S: History> State<
     /// happens. Nothing is drawn.
     ///
     /// # Errors
-    /// Those of the history: `Io` and `Memory`. Then either all is as it was; or the line has no
-    /// changes, the saved line is the one that was to be saved, and the history index stays. The
-    /// hint stays.
+    /// `Io` if the history fails, and `Memory` if memory runs out. Either all is then as it was; or
+    /// the line may be any text, without changes, the saved line is the one that was to be saved,
+    /// and the history index stays. The hint stays, and nothing is drawn.
     pub fn put_entry(&mut self, pos: usize, index: usize) -> Result<bool>
         ensures draft { let e = ⟦<Self as EditorState>⟧ in OnOk result
             (e.draft self.new ≡ entry_put (e.environment self.old) pos index (e.draft self.old)) }
@@ -137,7 +137,12 @@ impl<'out, 'prompt, W: Renderer, H: Helper, P: Prompt, S: History> State<
     /// an empty history, nothing happens.
     ///
     /// # Errors
-    /// Those of the helper, the history and the renderer, and that memory ran out.
+    /// `Io` if the renderer, the helper or the history fails, and `Memory` if memory runs out. The
+    /// line, its cursor, its changes, the saved line and the history index are then those of one
+    /// moment: before the call, once the line was saved, or after the call. The hint may be an
+    /// earlier one or none. Where memory ran out the line may also be any text, without changes and
+    /// with any hint; the saved line and the history index are those of one of these moments. The
+    /// kept layout and what the screen shows are not specified: draw the line again.
     pub fn edit_history_next(&mut self, prev: bool) -> Result<()>
         ensures { let e = ⟦<Self as EditorState>⟧ in
             let w = e.environment self.old in let d = e.draft self.old in
@@ -158,7 +163,12 @@ impl<'out, 'prompt, W: Renderer, H: Helper, P: Prompt, S: History> State<
     /// history.
     ///
     /// # Errors
-    /// Those of the helper, the history and the renderer, and that memory ran out.
+    /// `Io` if the renderer, the helper or the history fails, and `Memory` if memory runs out. The
+    /// line, its cursor, its changes, the saved line and the history index are then those of one
+    /// moment: before the call, once the line was saved, or after the call. The hint may be an
+    /// earlier one or none. Where memory ran out the line may also be any text, without changes and
+    /// with any hint; the saved line and the history index are those of one of these moments. The
+    /// kept layout and what the screen shows are not specified: draw the line again.
     pub fn edit_history(&mut self, first: bool) -> Result<()>
         ensures { let e = ⟦<Self as EditorState>⟧ in
             let w = e.environment self.old in let d = e.draft self.old in
@@ -180,7 +190,12 @@ impl<'out, 'prompt, W: Renderer, H: Helper, P: Prompt, S: History> State<
     /// a beep.
     ///
     /// # Errors
-    /// Those of the helper, the history and the renderer, and that memory ran out.
+    /// `Io` if the renderer, the helper or the history fails, and `Memory` if memory runs out. The
+    /// line, its cursor, its changes, the saved line and the history index are then those from
+    /// before the call or from after it. The hint may be an earlier one or none. Where memory ran
+    /// out the line may also be any text, without changes and with any hint; the saved line and the
+    /// history index are those from before the call or from after it. The kept layout and what the
+    /// screen shows are not specified: draw the line again.
     pub fn edit_history_search(&mut self, dir: SearchDirection) -> Result<()>
         ensures { let e = ⟦<Self as EditorState>⟧ in
             let w = e.environment self.old in let d = e.draft self.old in
@@ -262,7 +277,8 @@ impl<'out, 'prompt, W: Renderer, H: Helper, P: Prompt, S: History> State<
     /// Beeps: tells the person that nothing could be done. Nothing is drawn.
     ///
     /// # Errors
-    /// Those of the renderer.
+    /// `Io` if the renderer fails, and `Memory` if memory runs out. The line, its changes, the
+    /// hint, the kept layout and what the screen shows then stay.
     pub fn beep(&mut self) -> Result<()>
         ensures drew { DrewNothing ⟦<Self as EditorState>⟧ self.old self.new }
         ensures paints { Paints ⟦<Self as EditorState>⟧ false result self.old self.new }

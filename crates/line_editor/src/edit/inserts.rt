@@ -33,7 +33,11 @@ impl<'out, 'prompt, W: Renderer, H: Helper, P: Prompt, S: History> State<
     /// if a column is left after it. Else the line is drawn again.
     ///
     /// # Errors
-    /// Those of the helper, the history and the renderer, and that memory ran out.
+    /// `Io` if the renderer, the helper or the history fails, and `Memory` if memory runs out. The
+    /// line, its cursor and its changes are then those from before the edit or from after it, and
+    /// the hint may be an earlier one or none. Where memory ran out the line may also be any text,
+    /// without changes and with any hint. The saved line and the history index stay. The kept
+    /// layout and what the screen shows are not specified: draw the line again.
     pub fn edit_insert(&mut self, c: char, n: RepeatCount) -> Result<()>
         ensures { DoesCommand ⟦<Self as EditorState>⟧ result self.old self.new
             (commands.self_insert n c) }
@@ -72,7 +76,11 @@ impl<'out, 'prompt, W: Renderer, H: Helper, P: Prompt, S: History> State<
     /// Inserts a text at the cursor, which stays before it. The empty text changes nothing.
     ///
     /// # Errors
-    /// Those of the helper, the history and the renderer, and that memory ran out.
+    /// `Io` if the renderer, the helper or the history fails, and `Memory` if memory runs out. The
+    /// line, its cursor and its changes are then those from before the edit or from after it, and
+    /// the hint may be an earlier one or none. Where memory ran out the line may also be any text,
+    /// without changes and with any hint. The saved line and the history index stay. The kept
+    /// layout and what the screen shows are not specified: draw the line again.
     pub fn edit_insert_text(&mut self, text: &str) -> Result<()>
         ensures { let e = ⟦<Self as EditorState>⟧ in
             Does e result self.old self.new
@@ -91,7 +99,11 @@ impl<'out, 'prompt, W: Renderer, H: Helper, P: Prompt, S: History> State<
     /// stays. Open groups of changes end in any case.
     ///
     /// # Errors
-    /// Those of the helper, the history and the renderer, and that memory ran out.
+    /// `Io` if the renderer, the helper or the history fails, and `Memory` if memory runs out. The
+    /// line, its cursor and its changes are then those from before the edit or from after it, and
+    /// the hint may be an earlier one or none. Where memory ran out the line may also be any text,
+    /// without changes and with any hint. The saved line and the history index stay. The kept
+    /// layout and what the screen shows are not specified: draw the line again.
     pub fn edit_replace_char(&mut self, c: char, n: RepeatCount) -> Result<()>
         ensures { DoesCommand ⟦<Self as EditorState>⟧ result self.old self.new
             (commands.replace_char n c) }
@@ -104,7 +116,11 @@ impl<'out, 'prompt, W: Renderer, H: Helper, P: Prompt, S: History> State<
     /// text's end nothing happens.
     ///
     /// # Errors
-    /// Those of the helper, the history and the renderer, and that memory ran out.
+    /// `Io` if the renderer, the helper or the history fails, and `Memory` if memory runs out. The
+    /// line, its cursor and its changes are then those from before the edit or from after it, and
+    /// the hint may be an earlier one or none. Where memory ran out the line may also be any text,
+    /// without changes and with any hint. The saved line and the history index stay. The kept
+    /// layout and what the screen shows are not specified: draw the line again.
     pub fn edit_overwrite_char(&mut self, c: char) -> Result<()>
         ensures { DoesCommand ⟦<Self as EditorState>⟧ result self.old self.new
             (commands.overwrite c) }
@@ -118,7 +134,11 @@ impl<'out, 'prompt, W: Renderer, H: Helper, P: Prompt, S: History> State<
     /// only the cursor moves: for `After`, after the cluster.
     ///
     /// # Errors
-    /// Those of the helper, the history and the renderer, and that memory ran out.
+    /// `Io` if the renderer, the helper or the history fails, and `Memory` if memory runs out.
+    /// After `Io` the edit is done. After `Memory` the line, its cursor and its changes are those
+    /// from before it or from after it, or the line is any text, without changes and with any hint.
+    /// The hint may be an earlier one or none. The saved line and the history index stay. The kept
+    /// layout and what the screen shows are not specified: draw the line again.
     pub fn edit_yank<C: ConditionalEventHandler>(
         &mut self,
         input_state: &InputState<'_, C>,
@@ -141,7 +161,11 @@ impl<'out, 'prompt, W: Renderer, H: Helper, P: Prompt, S: History> State<
     /// changes end in any case.
     ///
     /// # Errors
-    /// Those of the helper, the history and the renderer, and that memory ran out.
+    /// `Io` if the renderer, the helper or the history fails, and `Memory` if memory runs out.
+    /// After `Io` the edit is done. After `Memory` the line, its cursor and its changes are those
+    /// from before it or from after it, or the line is any text, without changes and with any hint.
+    /// The hint may be an earlier one or none. The saved line and the history index stay. The kept
+    /// layout and what the screen shows are not specified: draw the line again.
     pub fn edit_yank_pop(&mut self, yank_size: usize, text: &str) -> Result<()>
         ensures { let e = ⟦<Self as EditorState>⟧ in
             EditsThenDraws e result self.old self.new

@@ -37,10 +37,15 @@ impl<'out, 'prompt, W: Renderer, H: Helper, P: Prompt, S: History> State<
     /// first column. Else the line is drawn again. Where there is nothing to kill, nothing happens.
     ///
     /// # Errors
-    /// Those of the helper, the history and the renderer, and that memory ran out. After one of
-    /// input or output `kill_ring` is as the kill leaves it, and where that changes it, so are the
-    /// line, its cursor and its changes. Where memory ran out the line may be any, without changes,
-    /// and `kill_ring` may be the one from before, with a kill as its last action or not.
+    /// `Io` if the renderer, the helper or the history fails, and `Memory` if memory runs out. The
+    /// line, its cursor and its changes are then those from before the kill or from after it, and
+    /// the hint may be an earlier one or none. Where memory ran out the line may also be any text,
+    /// without changes and with any hint. The saved line and the history index stay. The kept
+    /// layout and what the screen shows are not specified: draw the line again.
+    ///
+    /// After `Io` `kill_ring` is as the kill leaves it; if the kill changes it, the line is the one
+    /// from after the kill. After `Memory` `kill_ring` is as the kill leaves it, or the one from
+    /// before, with a kill as its last action or not.
     pub fn edit_kill(&mut self, movement: &Movement, kill_ring: &mut KillRing) -> Result<()>
         ensures does { DoesKilling ⟦<Self as EditorState>⟧ result self.old kill_ring.old
             self.new kill_ring.new (commands.kill movement.now) }

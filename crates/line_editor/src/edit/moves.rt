@@ -36,7 +36,8 @@ impl<'out, 'prompt, W: Renderer, H: Helper, P: Prompt, S: History> State<
     /// `highlight_char` is told.
     ///
     /// # Errors
-    /// Those of the renderer.
+    /// `Io` if the renderer fails, and `Memory` if memory runs out. The line, its changes, the hint
+    /// and the kept layout then stay. What the screen shows is not specified: draw the line again.
     pub fn move_cursor(&mut self, kind: CmdKind) -> Result<()>
         ensures { DrawsCursor ⟦<Self as EditorState>⟧ result self.old self.new kind }
     {
@@ -61,7 +62,9 @@ impl<'out, 'prompt, W: Renderer, H: Helper, P: Prompt, S: History> State<
     /// Moves the cursor `n` clusters back, or as many as there are. The screen cursor moves along.
     ///
     /// # Errors
-    /// Those of the renderer.
+    /// `Io` if the renderer fails, and `Memory` if memory runs out. The line's cursor has then
+    /// moved. The text, its changes, the hint and the kept layout stay. What the screen shows is
+    /// not specified: draw the line again.
     pub fn edit_move_backward(&mut self, n: RepeatCount) -> Result<()>
         ensures { let e = ⟦<Self as EditorState>⟧ in let line = (e.draft self.old).line in
             MovesTo e result self.old self.new MoveCursor (moved_to line (place_back line n)) }
@@ -72,7 +75,9 @@ impl<'out, 'prompt, W: Renderer, H: Helper, P: Prompt, S: History> State<
     /// Moves the cursor `n` clusters on, or as many as there are. The screen cursor moves along.
     ///
     /// # Errors
-    /// Those of the renderer.
+    /// `Io` if the renderer fails, and `Memory` if memory runs out. The line's cursor has then
+    /// moved. The text, its changes, the hint and the kept layout stay. What the screen shows is
+    /// not specified: draw the line again.
     pub fn edit_move_forward(&mut self, n: RepeatCount) -> Result<()>
         ensures { let e = ⟦<Self as EditorState>⟧ in let line = (e.draft self.old).line in
             MovesTo e result self.old self.new MoveCursor (moved_to line (place_on line n)) }
@@ -83,7 +88,9 @@ impl<'out, 'prompt, W: Renderer, H: Helper, P: Prompt, S: History> State<
     /// Moves the cursor to the start of its line. The screen cursor moves along.
     ///
     /// # Errors
-    /// Those of the renderer.
+    /// `Io` if the renderer fails, and `Memory` if memory runs out. The line's cursor has then
+    /// moved. The text, its changes, the hint and the kept layout stay. What the screen shows is
+    /// not specified: draw the line again.
     pub fn edit_move_home(&mut self) -> Result<()>
         ensures { let e = ⟦<Self as EditorState>⟧ in let line = (e.draft self.old).line in
             MovesTo e result self.old self.new MoveCursor (with_cursor line (start_of_line line)) }
@@ -94,7 +101,9 @@ impl<'out, 'prompt, W: Renderer, H: Helper, P: Prompt, S: History> State<
     /// Moves the cursor to the end of its line. The screen cursor moves along.
     ///
     /// # Errors
-    /// Those of the renderer.
+    /// `Io` if the renderer fails, and `Memory` if memory runs out. The line's cursor has then
+    /// moved. The text, its changes, the hint and the kept layout stay. What the screen shows is
+    /// not specified: draw the line again.
     pub fn edit_move_end(&mut self) -> Result<()>
         ensures { let e = ⟦<Self as EditorState>⟧ in let line = (e.draft self.old).line in
             MovesTo e result self.old self.new MoveCursor (with_cursor line (end_of_line line)) }
@@ -105,7 +114,9 @@ impl<'out, 'prompt, W: Renderer, H: Helper, P: Prompt, S: History> State<
     /// Moves the cursor to the start of the text. The screen cursor moves along.
     ///
     /// # Errors
-    /// Those of the renderer.
+    /// `Io` if the renderer fails, and `Memory` if memory runs out. The line's cursor has then
+    /// moved. The text, its changes, the hint and the kept layout stay. What the screen shows is
+    /// not specified: draw the line again.
     pub fn edit_move_buffer_start(&mut self) -> Result<()>
         ensures { let e = ⟦<Self as EditorState>⟧ in let line = (e.draft self.old).line in
             MovesTo e result self.old self.new MoveCursor (with_cursor line 0) }
@@ -116,7 +127,9 @@ impl<'out, 'prompt, W: Renderer, H: Helper, P: Prompt, S: History> State<
     /// Moves the cursor to the end of the text. The screen cursor moves along; `kind` says why.
     ///
     /// # Errors
-    /// Those of the renderer.
+    /// `Io` if the renderer fails, and `Memory` if memory runs out. The line's cursor has then
+    /// moved. The text, its changes, the hint and the kept layout stay. What the screen shows is
+    /// not specified: draw the line again.
     pub fn edit_move_buffer_end(&mut self, kind: CmdKind) -> Result<()>
         ensures { let e = ⟦<Self as EditorState>⟧ in let line = (e.draft self.old).line in
             MovesTo e result self.old self.new kind (with_cursor line (length line.text)) }
@@ -128,7 +141,9 @@ impl<'out, 'prompt, W: Renderer, H: Helper, P: Prompt, S: History> State<
     /// along.
     ///
     /// # Errors
-    /// Those of the renderer.
+    /// `Io` if the renderer fails, and `Memory` if memory runs out. The line's cursor has then
+    /// moved. The text, its changes, the hint and the kept layout stay. What the screen shows is
+    /// not specified: draw the line again.
     pub fn edit_move_to_prev_word(&mut self, word_def: Word, n: RepeatCount) -> Result<()>
         ensures { let e = ⟦<Self as EditorState>⟧ in let line = (e.draft self.old).line in
             MovesTo e result self.old self.new MoveCursor
@@ -141,7 +156,9 @@ impl<'out, 'prompt, W: Renderer, H: Helper, P: Prompt, S: History> State<
     /// `at` says. The screen cursor moves along.
     ///
     /// # Errors
-    /// Those of the renderer.
+    /// `Io` if the renderer fails, and `Memory` if memory runs out. The line's cursor has then
+    /// moved. The text, its changes, the hint and the kept layout stay. What the screen shows is
+    /// not specified: draw the line again.
     pub fn edit_move_to_next_word(&mut self, at: At, word_def: Word, n: RepeatCount) -> Result<()>
         ensures { let e = ⟦<Self as EditorState>⟧ in let line = (e.draft self.old).line in
             MovesTo e result self.old self.new MoveCursor
@@ -154,7 +171,9 @@ impl<'out, 'prompt, W: Renderer, H: Helper, P: Prompt, S: History> State<
     /// are fewer. The screen cursor moves along.
     ///
     /// # Errors
-    /// Those of the renderer.
+    /// `Io` if the renderer fails, and `Memory` if memory runs out. The line's cursor has then
+    /// moved. The text, its changes, the hint and the kept layout stay. What the screen shows is
+    /// not specified: draw the line again.
     pub fn edit_move_to(&mut self, cs: CharSearch, n: RepeatCount) -> Result<()>
         ensures { let e = ⟦<Self as EditorState>⟧ in let line = (e.draft self.old).line in
             MovesTo e result self.old self.new MoveCursor (moved_to line (search_place cs line n)) }
@@ -167,7 +186,9 @@ impl<'out, 'prompt, W: Renderer, H: Helper, P: Prompt, S: History> State<
     /// and nothing is drawn.
     ///
     /// # Errors
-    /// Those of the renderer.
+    /// `Io` if the renderer fails, and `Memory` if memory runs out. The line's cursor has then
+    /// moved. The text, its changes, the hint and the kept layout stay. What the screen shows is
+    /// not specified: draw the line again.
     #[tactic(auto, using(crate::proofs::EditLemmas::moved_text, crate::proofs::MoveLemmas::first_placed))]
     pub fn edit_move_line_up(&mut self, n: RepeatCount) -> Result<bool>
         ensures answer { let e = ⟦<Self as EditorState>⟧ in IfOk result (λ found. found
@@ -190,7 +211,9 @@ impl<'out, 'prompt, W: Renderer, H: Helper, P: Prompt, S: History> State<
     /// nothing is drawn.
     ///
     /// # Errors
-    /// Those of the renderer.
+    /// `Io` if the renderer fails, and `Memory` if memory runs out. The line's cursor has then
+    /// moved. The text, its changes, the hint and the kept layout stay. What the screen shows is
+    /// not specified: draw the line again.
     #[tactic(auto, using(crate::proofs::EditLemmas::moved_text, crate::proofs::MoveLemmas::first_placed))]
     pub fn edit_move_line_down(&mut self, n: RepeatCount) -> Result<bool>
         ensures answer { let e = ⟦<Self as EditorState>⟧ in IfOk result (λ found. found
@@ -287,7 +310,9 @@ impl<'out, 'prompt, W: Renderer, H: Helper, P: Prompt, S: History> State<
     /// included.
     ///
     /// # Errors
-    /// Those of the renderer.
+    /// `Io` if the renderer fails, and `Memory` if memory runs out. The line, its changes, the hint
+    /// and the kept layout then stay. Where the screen cursor stands is not specified: draw the
+    /// line again.
     pub fn move_cursor_to_end(&mut self) -> Result<()>
         ensures moved { let d = ⟦<Self as EditorState>⟧.display in
             GoesToShownEnd result (d self.old) (d self.new) }

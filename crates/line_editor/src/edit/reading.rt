@@ -33,11 +33,15 @@ impl<'out, 'prompt, W: Renderer, H: Helper, P: Prompt, S: History> State<
     /// group of changes for a replacement.
     ///
     /// # Errors
-    /// `Eof` where the items ended inside a phrase or before one; then a phrase that was cut short
-    /// can be read again with more items after it. Another error is one of input or output, or that
-    /// memory ran out. After an error the line, its cursor, the history index and what is
-    /// remembered of the keys stay as they were, and no item past the phrase that was begun is
-    /// read.
+    /// `Eof` if the items end inside a phrase or before one; a phrase that was cut short can be
+    /// read again with more items after it. `Io` if the reader, the renderer, a handler, the helper
+    /// or the history fails. `Memory` if memory runs out.
+    ///
+    /// After any error the line, its cursor, the saved line, the history index and what is
+    /// remembered of the keys stay, and no item past the phrase that was begun is read. After `Eof`
+    /// and `Io` the changes stay, too, but open groups of them may have ended, and the hint may be
+    /// an earlier one, none or that of the line. After `Memory` changes and hint may be any. After
+    /// `Io` and `Memory` draw the line again.
     pub fn next_cmd<C: ConditionalEventHandler>(
         &mut self,
         input_state: &mut InputState<'_, C>,

@@ -32,8 +32,11 @@ impl<'out, 'prompt, W: Renderer, H: Helper, P: Prompt, S: History> State<
     /// the result; without a helper every line is valid.
     ///
     /// # Errors
-    /// Those of the validator and of the renderer, and that memory ran out. The groups of changes
-    /// are then as before, or have ended.
+    /// `Io` if the validator or the renderer fails, and `Memory` if memory runs out. The text, its
+    /// cursor and its changes then stay, but open groups of changes may have ended, and the hint
+    /// may be an earlier one or none. Where memory ran out the line may also be any text, without
+    /// changes and with any hint. The saved line and the history index stay. The kept layout and
+    /// what the screen shows are not specified: draw the line again.
     #[tactic(auto, using(crate::proofs::EditLemmas::no_verdict, crate::proofs::EditLemmas::not_validated, crate::proofs::EditLemmas::was_validated))]
     pub fn validate(&mut self) -> Result<ValidationResult>
         ensures verdict { let e = ⟦<Self as EditorState>⟧ in IfOk result (λ r.

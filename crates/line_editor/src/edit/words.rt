@@ -27,7 +27,11 @@ impl<'out, 'prompt, W: Renderer, H: Helper, P: Prompt, S: History> State<
     /// clusters, the line stays. Open groups of changes end in any case.
     ///
     /// # Errors
-    /// Those of the helper, the history and the renderer, and that memory ran out.
+    /// `Io` if the renderer, the helper or the history fails, and `Memory` if memory runs out. The
+    /// line, its cursor and its changes are then those from before the edit or from after it, and
+    /// the hint may be an earlier one or none. Where memory ran out the line may also be any text,
+    /// without changes and with any hint. The saved line and the history index stay. The kept
+    /// layout and what the screen shows are not specified: draw the line again.
     pub fn edit_transpose_chars(&mut self) -> Result<()>
         ensures { DoesCommand ⟦<Self as EditorState>⟧ result self.old self.new
             commands.transpose_chars }
@@ -41,7 +45,11 @@ impl<'out, 'prompt, W: Renderer, H: Helper, P: Prompt, S: History> State<
     /// after the first.
     ///
     /// # Errors
-    /// Those of the helper, the history and the renderer, and that memory ran out.
+    /// `Io` if the renderer, the helper or the history fails, and `Memory` if memory runs out. The
+    /// line, its cursor and its changes are then those from before the edit or from after it, and
+    /// the hint may be an earlier one or none. Where memory ran out the line may also be any text,
+    /// without changes and with any hint. The saved line and the history index stay. The kept
+    /// layout and what the screen shows are not specified: draw the line again.
     pub fn edit_transpose_words(&mut self, n: RepeatCount) -> Result<()>
         ensures { DoesCommand ⟦<Self as EditorState>⟧ result self.old self.new
             (commands.transpose_words n) }
@@ -54,7 +62,11 @@ impl<'out, 'prompt, W: Renderer, H: Helper, P: Prompt, S: History> State<
     /// stays. Open groups of changes end in any case.
     ///
     /// # Errors
-    /// Those of the helper, the history and the renderer, and that memory ran out.
+    /// `Io` if the renderer, the helper or the history fails, and `Memory` if memory runs out. The
+    /// line, its cursor and its changes are then those from before the edit or from after it, and
+    /// the hint may be an earlier one or none. Where memory ran out the line may also be any text,
+    /// without changes and with any hint. The saved line and the history index stay. The kept
+    /// layout and what the screen shows are not specified: draw the line again.
     pub fn edit_word(&mut self, action: WordAction) -> Result<()>
         ensures { let e = ⟦<Self as EditorState>⟧ in
             Does e result self.old self.new
@@ -69,7 +81,11 @@ impl<'out, 'prompt, W: Renderer, H: Helper, P: Prompt, S: History> State<
     /// white-space characters from its front.
     ///
     /// # Errors
-    /// Those of the helper, the history and the renderer, and that memory ran out.
+    /// `Io` if the renderer, the helper or the history fails, and `Memory` if memory runs out. The
+    /// line, its cursor and its changes are then those from before the edit or from after it, and
+    /// the hint may be an earlier one or none. Where memory ran out the line may also be any text,
+    /// without changes and with any hint. The saved line and the history index stay. The kept
+    /// layout and what the screen shows are not specified: draw the line again.
     pub fn edit_indent(&mut self, mvt: &Movement, amount: u8, dedent: bool) -> Result<()>
         ensures { let e = ⟦<Self as EditorState>⟧ in Does e result self.old self.new
             (lines_shifted (e.environment self.old) dedent amount mvt.now (e.draft self.old))

@@ -63,7 +63,7 @@ fn escape_chars<F: Fn(char) -> bool>(
 /// true for. In single quotes, and without an escape character, that is the text itself.
 ///
 /// # Errors
-/// `Memory`, where an allocation fails.
+/// `Memory` if memory runs out.
 pub fn escape<F: Fn(char) -> bool>(
     input: String,
     esc_char: Option<char>,
@@ -116,7 +116,7 @@ fn unescape_chars(alloc: Global, input: &str, esc_char: char) -> Result<String>
 /// an escape character that is the text itself.
 ///
 /// # Errors
-/// `Memory`, where an allocation fails.
+/// `Memory` if memory runs out.
 pub fn unescape(alloc: Global, input: &str, esc_char: Option<char>) -> Result<CowStr<'_>>
     ensures text { IfOk result
         (λ text. cow_str_bytes text ≡ on_chars (unescaped esc_char) input.now) }

@@ -41,7 +41,8 @@ pub trait Lister {
     /// where the path has no `/`.
     ///
     /// # Errors
-    /// `Io`, only where this lister is not sure, and `Memory`.
+    /// `Io` if this lister fails, and `Memory` if memory runs out. No `Io` comes if this lister is
+    /// sure.
     fn list(&self, alloc: Global, dir: &str) -> Result<Option<Vec<Entry>>>
         ensures answer { IfOk result (λ names. option_map (λ v. map listed_of v.items) names
             ≡ listing self.now dir.now) }
@@ -72,7 +73,8 @@ impl<L: Lister> FilenameCompleter<L> {
     /// of a folder.
     ///
     /// # Errors
-    /// `Io`, only where the lister is not sure, and `Memory`.
+    /// `Io` if the lister fails, and `Memory` if memory runs out. No `Io` comes if the lister is
+    /// sure.
     pub fn complete_path(&self, alloc: Global, line: &str, pos: usize) -> Result<(usize, Vec<Pair>)>
         requires { IsCharBoundary line.now pos }
         ensures start { IfOk result (λ r. BeginsIn line.now pos r.0) }
@@ -95,7 +97,8 @@ impl<L: Lister> FilenameCompleter<L> {
     /// Returns the same with the candidates in the order in which the lister returned the names.
     ///
     /// # Errors
-    /// `Io`, only where the lister is not sure, and `Memory`.
+    /// `Io` if the lister fails, and `Memory` if memory runs out. No `Io` comes if the lister is
+    /// sure.
     pub fn complete_path_unsorted(
         &self,
         alloc: Global,
@@ -161,8 +164,8 @@ impl<L: Lister> Completer for FilenameCompleter<L> {
     /// cursor then stands after that text.
     ///
     /// # Errors
-    /// `Memory`, where an allocation fails. The changes then still record the line, or there are
-    /// none.
+    /// `Memory` if memory runs out. The line may then be any text with its cursor on a boundary.
+    /// The changes still record the line, or there are none.
     fn update(
         &self,
         line: &mut LineBuffer,

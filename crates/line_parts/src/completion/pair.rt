@@ -28,7 +28,7 @@ impl Pair {
     /// Returns an equal pair.
     ///
     /// # Errors
-    /// `Memory`, where an allocation fails.
+    /// `Memory` if memory runs out.
     pub fn clone(&self) -> Result<Self>
         ensures answer { IfOk result (λ copy. pair_offer copy ≡ pair_offer self.now) }
         ensures memory { MemoryOnly result }

@@ -142,8 +142,8 @@ impl FileHistory {
     /// A line that ends in a carriage return is loaded without it: `save_v3_to` keeps it.
     ///
     /// # Errors
-    /// `Io`, where the writer fails, and `Memory`. The history and its new lines then stay as they
-    /// were, and `out` may have a part of the text.
+    /// `Io` if the writer fails, and `Memory` if memory runs out. The history and its new lines
+    /// then stay as they were, and `out` may have a part of the text.
     pub fn save_to<T: Write>(&mut self, out: &mut T, append: bool) -> Result<()>
         ensures { Saves V2 append result
             (T.contents out.old) (T.contents out.new) self.old self.new }
@@ -158,8 +158,8 @@ impl FileHistory {
     /// the other way round.
     ///
     /// # Errors
-    /// `Io`, where the writer fails, and `Memory`. The history and its new lines then stay as they
-    /// were, and `out` may have a part of the text.
+    /// `Io` if the writer fails, and `Memory` if memory runs out. The history and its new lines
+    /// then stay as they were, and `out` may have a part of the text.
     pub fn save_v3_to<T: Write>(&mut self, out: &mut T, append: bool) -> Result<()>
         ensures { Saves V3 append result
             (T.contents out.old) (T.contents out.new) self.old self.new }
@@ -277,10 +277,10 @@ impl FileHistory {
     /// began so, and every line was taken. After that no line counts as new.
     ///
     /// # Errors
-    /// `Io`, where the reader fails, by its own error; where what a line says is not UTF-8, of kind
-    /// `InvalidData`; and where there are more lines than a `u64` can count, of kind
-    /// `FileTooLarge`. `Memory`, also where the reader reports the want of it. The lines before the
-    /// fault are then there, and count as new.
+    /// `Io` if the reader fails, with the reader's own error. `Io` of kind `InvalidData` if what a
+    /// line says is not UTF-8, and of kind `FileTooLarge` if there are more lines than a `u64` can
+    /// count. `Memory` if memory runs out, also where the reader says so. The lines before the
+    /// fault are then in the history, and count as new.
     #[tactic(auto, using(crate::proofs::LoadLemmas::nothing_read, crate::proofs::LoadLemmas::adds_some_none, crate::proofs::LoadLemmas::reader_known))]
     pub fn load_from<T: Read + Drop>(&mut self, reader: T) -> Result<bool>
         ensures loads { LoadsWhole result (T.remaining reader) self.old self.new }

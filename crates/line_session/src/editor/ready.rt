@@ -18,7 +18,9 @@ impl<O: Write + Drop, H: Helper + Drop> Editor<O, H, FileHistory> {
     /// nothing is read then.
     ///
     /// # Errors
-    /// Those of `FileHistory::load_from`. The lines before the fault are then there.
+    /// As `FileHistory::load_from`: `Io` if the reader fails, if a line is not UTF-8, or if there
+    /// are too many lines to count, and `Memory` if memory runs out. The lines before the fault are
+    /// then in the history. All else of the editor stays.
     pub fn load_history<R: Read + Drop>(&mut self, reader: R) -> Result<Option<bool>>
         ensures loads { self.old.line ≡ None
             → Files (LoadsText result (R.remaining reader)) self.old self.new }
@@ -37,7 +39,8 @@ impl<O: Write + Drop, H: Helper + Drop> Editor<O, H, FileHistory> {
     /// written: not while a line goes on.
     ///
     /// # Errors
-    /// Those of `FileHistory::save_v3_to`.
+    /// As `FileHistory::save_v3_to`: `Io` if the writer fails, and `Memory` if memory runs out. The
+    /// history and all else of the editor then stay, and `out` may have a part of the text.
     pub fn save_history<W: Write>(&mut self, out: &mut W, append: bool) -> Result<bool>
         ensures saves { self.old.line ≡ None → Files (Saves V3 append result
             (W.contents out.old) (W.contents out.new)) self.old self.new }

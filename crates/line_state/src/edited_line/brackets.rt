@@ -42,8 +42,8 @@ impl EditedLine {
     /// there is such a range.
     ///
     /// # Errors
-    /// `OutOfMemory` alone. The line may then be any text with its cursor on a boundary, and there
-    /// are no changes to undo.
+    /// `OutOfMemory` if memory runs out. There are then no changes to undo, and the line may be any
+    /// text with its cursor on a boundary.
     pub fn remove_to_bracket(&mut self) -> Result<bool, OutOfMemory>
         ensures { let range = bracket_range self.old.line in FindsToEdit result self.old self.new
             (with_nothing_for range self.old) (is_some range) }

@@ -14,8 +14,9 @@ impl EditedLine {
     /// cursor, or does with it what the completer does by itself.
     ///
     /// # Errors
-    /// `Io`, only where the completer is not sure, and `Memory`. The changes then still record the
-    /// line, or there are none.
+    /// `Io` if the completer fails, and `Memory` if memory runs out. The line may then be any text
+    /// with its cursor on a boundary. Its changes still lead back to the text that it began with,
+    /// or there are none. No `Io` comes if the completer is sure.
     pub fn elect<C: Completer>(&mut self, completer: &C, start: usize, elected: &str) -> Result<()>
         requires before { start ≤ self.old.line.cursor }
         requires boundary { IsCharBoundary self.old.line.text start }

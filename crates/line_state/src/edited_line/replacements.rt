@@ -16,8 +16,8 @@ impl EditedLine {
     /// Returns whether there is one.
     ///
     /// # Errors
-    /// `OutOfMemory` alone. The line may then be any text with its cursor on a boundary, and there
-    /// are no changes to undo.
+    /// `OutOfMemory` if memory runs out. There are then no changes to undo, and the line may be any
+    /// text with its cursor on a boundary.
     pub fn overwrite(&mut self, c: char) -> Result<bool, OutOfMemory>
         ensures { let stop = place_on self.old.line 1 in
             Reports result self.old self.new (with_overwritten c stop self.old) (is_some stop) }
@@ -37,8 +37,8 @@ impl EditedLine {
     /// one.
     ///
     /// # Errors
-    /// `OutOfMemory` alone. The line may then be any text with its cursor on a boundary, and there
-    /// are no changes to undo.
+    /// `OutOfMemory` if memory runs out. There are then no changes to undo, and the line may be any
+    /// text with its cursor on a boundary.
     pub fn replace_char(&mut self, c: char, n: RepeatCount) -> Result<bool, OutOfMemory>
         ensures { Reports result self.old self.new (with_char_for c n self.old)
             (is_some (place_on self.old.line n)) }
@@ -87,8 +87,8 @@ impl EditedLine {
     /// group of changes, with the cursor after both. Returns whether there are two.
     ///
     /// # Errors
-    /// `OutOfMemory` alone. The line may then be any text with its cursor on a boundary, and there
-    /// are no changes to undo.
+    /// `OutOfMemory` if memory runs out. There are then no changes to undo, and the line may be any
+    /// text with its cursor on a boundary.
     pub fn transpose_chars(&mut self) -> Result<bool, OutOfMemory>
         ensures { Reports result self.old self.new (with_chars_swapped self.old)
             (has_two_chars self.old.line) }
@@ -113,8 +113,8 @@ impl EditedLine {
     /// the cursor alone moves: to after the first.
     ///
     /// # Errors
-    /// `OutOfMemory` alone. The line may then be any text with its cursor on a boundary, and there
-    /// are no changes to undo.
+    /// `OutOfMemory` if memory runs out. There are then no changes to undo, and the line may be any
+    /// text with its cursor on a boundary.
     pub fn transpose_words(&mut self, n: RepeatCount) -> Result<bool, OutOfMemory>
         ensures reports { FindsToEdit result self.old self.new (with_words_swapped n self.old)
             (are_apart (words_beside self.old.line n)) }
@@ -140,8 +140,8 @@ impl EditedLine {
     /// Returns whether there is one.
     ///
     /// # Errors
-    /// `OutOfMemory` alone. The line may then be any text with its cursor on a boundary, and there
-    /// are no changes to undo.
+    /// `OutOfMemory` if memory runs out. There are then no changes to undo, and the line may be any
+    /// text with its cursor on a boundary.
     pub fn edit_word(&mut self, action: WordAction) -> Result<bool, OutOfMemory>
         ensures { Reports result self.old self.new (with_next_word action self.old)
             (is_some (next_alphanumeric self.old.line)) }
@@ -165,8 +165,8 @@ impl EditedLine {
     /// many white-space characters at their front. The cursor stays with its character.
     ///
     /// # Errors
-    /// `OutOfMemory` alone. The line may then be any text with its cursor on a boundary, and there
-    /// are no changes to undo.
+    /// `OutOfMemory` if memory runs out. There are then no changes to undo, and the line may be any
+    /// text with its cursor on a boundary.
     pub fn indent(
         &mut self,
         movement: &Movement,

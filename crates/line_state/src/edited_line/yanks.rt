@@ -12,8 +12,8 @@ impl EditedLine {
     /// Inserts a text at the cursor, which stays before it.
     ///
     /// # Errors
-    /// `OutOfMemory` alone. The line may then be any text with its cursor on a boundary, and there
-    /// are no changes to undo.
+    /// `OutOfMemory` if memory runs out. There are then no changes to undo, and the line may be any
+    /// text with its cursor on a boundary.
     pub fn insert_text(&mut self, text: &str) -> Result<(), OutOfMemory>
         ensures { EditsTo result self.old self.new (with_text text.now self.old) }
     {
@@ -25,8 +25,8 @@ impl EditedLine {
     /// there was a text.
     ///
     /// # Errors
-    /// `OutOfMemory` alone. The line may then be any text with its cursor on a boundary, and there
-    /// are no changes to undo.
+    /// `OutOfMemory` if memory runs out. There are then no changes to undo, and the line may be any
+    /// text with its cursor on a boundary.
     pub fn yank(&mut self, text: &str, n: RepeatCount) -> Result<bool, OutOfMemory>
         ensures { Reports result self.old self.new (with_yanked text.now n self.old)
             (not (length text.now == 0)) }
@@ -40,8 +40,8 @@ impl EditedLine {
     /// moves: for `After`, to after the cluster. Returns whether there was a text.
     ///
     /// # Errors
-    /// `OutOfMemory` alone. The line may then be any text with its cursor on a boundary, and there
-    /// are no changes to undo.
+    /// `OutOfMemory` if memory runs out. There are then no changes to undo, and the line may be any
+    /// text with its cursor on a boundary.
     pub fn yank_at(
         &mut self,
         anchor: Anchor,
@@ -92,8 +92,8 @@ impl EditedLine {
     /// bytes stand there, or they would cut a character.
     ///
     /// # Errors
-    /// `OutOfMemory` alone. The line may then be any text with its cursor on a boundary, and there
-    /// are no changes to undo.
+    /// `OutOfMemory` if memory runs out. There are then no changes to undo, and the line may be any
+    /// text with its cursor on a boundary.
     pub fn yank_pop(&mut self, size: usize, text: &str) -> Result<bool, OutOfMemory>
         ensures reports { FindsToEdit result self.old self.new (with_popped size text.now self.old)
             (pops_text self.old.line size text.now) }
@@ -139,8 +139,8 @@ impl EditedLine {
     /// Puts a text in the place of the whole line, and the cursor at byte `pos` of it.
     ///
     /// # Errors
-    /// `OutOfMemory` alone. The line may then be any text with its cursor on a boundary, and there
-    /// are no changes to undo.
+    /// `OutOfMemory` if memory runs out. There are then no changes to undo, and the line may be any
+    /// text with its cursor on a boundary.
     pub fn update(&mut self, text: &str, pos: usize) -> Result<(), OutOfMemory>
         requires { IsCharBoundary text.now pos }
         ensures { EditsTo result self.old self.new (with_update_to text.now pos self.old) }
@@ -152,8 +152,8 @@ impl EditedLine {
     /// `pos` of it.
     ///
     /// # Errors
-    /// `OutOfMemory` alone. The line may then be any text with its cursor on a boundary, and there
-    /// are no changes to undo.
+    /// `OutOfMemory` if memory runs out. There are then no changes to undo, and the line may be any
+    /// text with its cursor on a boundary.
     pub fn update_in_group(&mut self, text: &str, pos: usize) -> Result<(), OutOfMemory>
         requires { IsCharBoundary text.now pos }
         ensures { EditsTo result self.old self.new
