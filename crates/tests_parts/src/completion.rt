@@ -16,38 +16,71 @@ fn breaks(c: char) -> bool {
     matches!(c, ' ' | '\\' | '"' | '\'' | 'é')
 }
 
-/// Whether the answer about words, escapes and what candidates have in common is the right one.
+/// Whether the answer about words, candidates and completers is the right one.
 pub(super) fn is_right(
     rt: &impl Abort,
     alloc: Global,
     text: &str,
-    asked: Asked<'_>,
+    asked: &Asked<'_>,
 ) -> Result<bool> {
-    match asked {
+    match *asked {
         Asked::Word(pos, esc_char, start, word) => Ok(
             text.is_char_boundary(pos)
                 && extract_word(text, pos, esc_char, breaks) == (start, word),
         ),
-        Asked::Escaped(esc_char, quote, wanted) => {
-            let text = String::from_str(alloc, text)?;
-            Ok(escape(text, esc_char, breaks, quote)?.as_str() == wanted)
-        }
-        Asked::Unescaped(esc_char, wanted, same) => {
-            let found = unescape(alloc, text, esc_char)?;
-            Ok(found.as_str() == wanted && matches!(found, CowStr::Borrowed(_)) == same)
-        }
-        Asked::Alike(count, wanted) => {
-            let texts: Vec<&str> = text.split('|').take(count).collect(alloc)?;
-            Ok(longest_common_prefix(texts.as_slice()) == wanted)
-        }
+        Asked::Alike(count, wanted) => begin_alike(alloc, text, count, wanted),
         Asked::Paired(replacement, other, common) => {
             are_paired(alloc, (text, replacement), other, common)
         }
         Asked::Elected(which, pos, elected, wanted) => {
             Ok(faults::elects(rt, alloc, which, (text, pos, elected, wanted)))
         }
+        Asked::Escaped(esc_char, quote, wanted) => {
+            is_escaped(alloc, text, esc_char, quote, wanted)
+        }
+        Asked::Unescaped(esc_char, wanted, same) => {
+            is_unescaped(alloc, text, esc_char, wanted, same)
+        }
         _ => Ok(false),
     }
+}
+
+/// Whether this is the text with its escapes.
+fn is_escaped(
+    alloc: Global,
+    text: &str,
+    esc_char: Option<char>,
+    quote: Quote,
+    wanted: &str,
+) -> Result<bool> {
+    let text = String::from_str(alloc, text)?;
+    Ok(escape(text, esc_char, breaks, quote)?.as_str() == wanted)
+}
+
+/// Whether this is the text without its escapes, and whether it is the text itself as it is to be.
+fn is_unescaped(
+    alloc: Global,
+    text: &str,
+    esc_char: Option<char>,
+    wanted: &str,
+    same: bool,
+) -> Result<bool> {
+    let found = unescape(alloc, text, esc_char)?;
+    Ok(found.as_str() == wanted && matches!(found, CowStr::Borrowed(_)) == same)
+}
+
+/// Whether so many of the first texts, with a stroke between two, begin so in common.
+fn begin_alike(alloc: Global, texts: &str, count: usize, wanted: Option<&str>) -> Result<bool> {
+    let texts: Vec<&str> = texts.split('|').take(count).collect(alloc)?;
+    Ok(longest_common_prefix(texts.as_slice()) == wanted)
+}
+
+/// A pair of these texts.
+fn pair_of(alloc: Global, display: &str, replacement: &str) -> Result<Pair> {
+    Ok(Pair {
+        display: String::from_str(alloc, display)?,
+        replacement: String::from_str(alloc, replacement)?,
+    })
 }
 
 /// Whether the copy of a pair is that pair, and its replacement begins with that of another pair as it is to.
@@ -57,21 +90,13 @@ fn are_paired(
     other: &str,
     common: &str,
 ) -> Result<bool> {
-    let mut pairs = Vec::new(alloc);
-    for (display, replacement) in [(display, replacement), ("other", other)] {
-        let display = String::from_str(alloc, display)?;
-        let replacement = String::from_str(alloc, replacement)?;
-        pairs.push(Pair {
-            display,
-            replacement,
-        })?;
-    }
-    let Some(first) = pairs.first() else {
-        return Ok(false);
-    };
-    let copy = first.clone()?;
+    let pairs = [
+        pair_of(alloc, display, replacement)?,
+        pair_of(alloc, "other", other)?,
+    ];
+    let copy = pairs[0].clone()?;
     let is_copied = (copy.display(), copy.replacement()) == (display, replacement);
-    Ok(is_copied && longest_common_prefix(pairs.as_slice()) == Some(common))
+    Ok(is_copied && longest_common_prefix(&pairs) == Some(common))
 }
 
 pub(super) const CASES: &[Case<'_>] = &[

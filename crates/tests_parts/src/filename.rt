@@ -182,32 +182,39 @@ pub(super) fn completes(
 /// How many names complete a line, and the last of them, as it is shown and put in, where it is told.
 pub(super) type Last<'t> = (usize, Option<(&'t str, &'t str)>);
 
-/// Whether so many of the folders `n 2999`, `n 2998` and so on, down to `n 0`, complete the line, and the last of them is the
-/// one that is told.
+/// The names of the folders `n 2999`, `n 2998` and so on, down to `n 0`.
+fn many_names(alloc: Global) -> Result<String> {
+    let mut names = String::new(alloc);
+    for number in (0..3_000).rev() {
+        let name = format!(in alloc; "n {number}/,")?;
+        names.push_str(name.as_str())?;
+    }
+    Ok(names)
+}
+
+/// Whether the last pair is the one that is told.
+fn is_last(pairs: &[Pair], last: Option<(&str, &str)>) -> bool {
+    match (last, pairs.last()) {
+        (Some(last), Some(pair)) => (pair.display.as_str(), pair.replacement.as_str()) == last,
+        (last, _) => last.is_none(),
+    }
+}
+
+/// Whether so many of some thousand folders complete the line, and the last of them is the one that is told.
 pub(super) fn are_many(
     alloc: Global,
     line: &str,
     way: Way,
     (count, last): Last<'_>,
 ) -> Result<bool> {
-    let mut names = String::new(alloc);
-    for number in (0..3_000).rev() {
-        let name = format!(in alloc; "n {number}/,")?;
-        names.push_str(name.as_str())?;
-    }
     if !line.is_char_boundary(line.len()) {
         return Ok(false);
     }
+    let names = many_names(alloc)?;
     let names = names.as_str().trim_end_matches(',');
     let folder = folder_of(alloc, ("", names), Broken::Call(0), GONE)?;
     let (_, pairs) = found(alloc, way, folder, line, line.len())?;
-    let is_last = match (last, pairs.last()) {
-        (Some((display, replacement)), Some(pair)) => {
-            pair.display.as_str() == display && pair.replacement.as_str() == replacement
-        }
-        (last, _) => last.is_none(),
-    };
-    Ok(pairs.len() == count && is_last)
+    Ok(pairs.len() == count && is_last(pairs.as_slice(), last))
 }
 
 /// The names of most cases.

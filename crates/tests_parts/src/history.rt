@@ -161,7 +161,7 @@ fn answer_of<T>(
             .is_answer(alloc, &failed)
             .expect(rt, "no fault")
     };
-    assert!(rt; known, "{kind:?}");
+    holds(rt, known, text, 0);
     None
 }
 

@@ -2,7 +2,8 @@
 
 mod faults;
 
-use crate::ready::{Asked, Case, is_hint, says};
+use crate::filename::Broken;
+use crate::ready::{Asked, Case, is_hint, is_shown, says};
 use crate::{filename, history_hinter, holds};
 use faults::{Answer, answers};
 use line_config::CompletionType;
@@ -22,41 +23,37 @@ fn stands<T: Candidate + Hint>(value: &T, text: &str) -> bool {
 /// A line that is valid, without a message.
 const VALID: Answer = Answer::Verdict("valid", "");
 
+/// Whether the unit leaves a text as it is, whatever it stands for.
+fn is_left(alloc: Global, text: &str) -> bool {
+    let unit = &mut ();
+    let is_lit = unit.highlight_char(text, 0, CmdKind::Other);
+    let candidate = unit.highlight_candidate(alloc, text, CompletionType::List);
+    !is_lit
+        && is_shown(candidate, text)
+        && is_shown(unit.highlight(alloc, text, 0), text)
+        && is_shown(unit.highlight_prompt(alloc, text, true), text)
+        && is_shown(unit.highlight_hint(alloc, text), text)
+}
+
+/// Whether an editor gets the one answer about a text from no helper and from the unit, and the other one from a helper with
+/// a hint.
+fn is_answered(rt: &impl Abort, alloc: Global, text: &str, wanted: Answer, told: Answer) -> bool {
+    let mut advisor = Advisor::new(Some("!"), (true, true, None), None);
+    answers(rt, alloc, None::<&mut ()>, text, wanted, None)
+        && answers(rt, alloc, Some(&mut ()), text, wanted, None)
+        && answers(rt, alloc, Some(&mut advisor), text, told, None)
+}
+
 /// Whether a text stands for itself, the unit and no helper at all leave it as it is, and an editor gets a helper's answers
 /// about it.
 pub(super) fn stays(rt: &impl Abort, alloc: Global, text: &str) -> bool {
     let owned = String::from_str(alloc, text).expect(rt, "no fault");
-    let unit = &mut ();
-    let is_lit = unit.highlight_char(text, 0, CmdKind::Other);
-    let candidate = unit.highlight_candidate(alloc, text, CompletionType::List);
-    let is_plain = candidate.expect(rt, "no fault").as_str() == text
-        && unit
-            .highlight(alloc, text, 0)
-            .expect(rt, "no fault")
-            .as_str()
-            == text
-        && unit
-            .highlight_prompt(alloc, text, true)
-            .expect(rt, "no fault")
-            .as_str()
-            == text
-        && unit
-            .highlight_hint(alloc, text)
-            .expect(rt, "no fault")
-            .as_str()
-            == text;
-    let mut right = is_plain && !is_lit && stands(&text, text) && stands(&owned, text);
-    for (wanted, told) in [
-        (Answer::Hint(None), Answer::Hint(Some("!"))),
-        (VALID, VALID),
-    ] {
-        let mut advisor = Advisor::new(Some("!"), (true, true, None), None);
-        right = right
-            && answers(rt, alloc, None::<&mut ()>, text, wanted, None)
-            && answers(rt, alloc, Some(&mut ()), text, wanted, None)
-            && answers(rt, alloc, Some(&mut advisor), text, told, None);
-    }
-    right
+    let hint = Answer::Hint(Some("!"));
+    stands(&text, text)
+        && stands(&owned, text)
+        && is_left(alloc, text)
+        && is_answered(rt, alloc, text, Answer::Hint(None), hint)
+        && is_answered(rt, alloc, text, VALID, VALID)
 }
 
 pub(super) const CASES: &[Case<'_>] = &[
@@ -91,38 +88,55 @@ const LOST: Fault = Fault {
     text: "no such folder",
 };
 
+/// Each answer of a helper is handed on, and the fault where there is one.
+fn of_helpers(rt: &impl Abort, alloc: Global, fault: Fault) {
+    for (row, case) in faults::CASES.iter().enumerate() {
+        let found = faults::hands_on(rt, alloc, case, fault);
+        holds(rt, found, fault.text, row);
+    }
+}
+
+/// So is each hint by a history, or its fault.
+fn of_hinters(rt: &impl Abort, alloc: Global, fault: Fault) {
+    for (row, case) in history_hinter::FAULTY.iter().enumerate() {
+        let found = history_hinter::asks(rt, alloc, case, fault);
+        holds(rt, found, fault.text, row);
+    }
+}
+
+/// So is what completes a line by a lister of which some calls fail, or the fault.
+fn of_listers(rt: &impl Abort, alloc: Global, broken: Broken, fault: Fault) {
+    for (row, case) in filename::FAULTY.iter().enumerate() {
+        let found = filename::completes(alloc, filename::EACH_WAY, *case, broken, fault);
+        holds(rt, found.expect(rt, "no fault"), fault.text, row);
+    }
+}
+
+/// A helper keeps its answers, and so does the unit.
+fn keep_their_answers(rt: &impl Abort, alloc: Global) {
+    let moved = Some(CmdKind::MoveCursor);
+    let mut advisor = Advisor::new(Some("!"), (true, false, Some("no")), moved);
+    for _ in 0..2 {
+        let wanted = (true, Some("!"), ("invalid", "no"));
+        let told = tells(rt, alloc, &mut advisor, wanted);
+        holds(rt, told, "advisor", 0);
+    }
+    let unit = tells(rt, alloc, &mut (), (false, None, ("valid", "")));
+    let is_told = advisor.kinds() == (moved, moved, None, None);
+    holds(rt, unit && is_told, "unit", 0);
+}
+
 /// A helper keeps its answers, and so does the unit. Each answer, and each error of a helper, a history or a lister, is
 /// handed on.
 #[test]
 fn answers_and_errors_are_handed_on(rt: HostRuntime) {
-    let (alloc, moved) = (rt.alloc(), Some(CmdKind::MoveCursor));
-    let mut advisor = Advisor::new(Some("!"), (true, false, Some("no")), moved);
-    for _ in 0..2 {
-        let wanted = (true, Some("!"), ("invalid", "no"));
-        let told = tells(&rt, alloc, &mut advisor, wanted);
-        holds(&rt, told, "advisor", 0);
-    }
-    let unit = tells(&rt, alloc, &mut (), (false, None, ("valid", "")));
-    let is_told = advisor.kinds() == (moved, moved, None, None);
-    holds(&rt, unit && is_told, "unit", 0);
+    let alloc = rt.alloc();
+    keep_their_answers(&rt, alloc);
     for fault in [USUAL, GONE, CUT, LOST] {
-        for (row, case) in faults::CASES.iter().enumerate() {
-            let ((hint, verdict), failing, wanted, faulty) = *case;
-            let mut advisor = Advisor::new(hint, verdict, None);
-            advisor.fail_by(failing, fault);
-            let comes = if faulty { Some(fault) } else { None };
-            let found = answers(&rt, alloc, Some(&mut advisor), "ab", wanted, comes);
-            holds(&rt, found, fault.text, row);
-        }
-        for (row, case) in history_hinter::FAULTY.iter().enumerate() {
-            let found = history_hinter::asks(&rt, alloc, case, fault);
-            holds(&rt, found, fault.text, row);
-        }
+        of_helpers(&rt, alloc, fault);
+        of_hinters(&rt, alloc, fault);
         for broken in filename::BREAKS {
-            for (row, case) in filename::FAULTY.iter().enumerate() {
-                let found = filename::completes(alloc, filename::EACH_WAY, *case, *broken, fault);
-                holds(&rt, found.expect(&rt, "no fault"), fault.text, row);
-            }
+            of_listers(&rt, alloc, *broken, fault);
         }
     }
 }

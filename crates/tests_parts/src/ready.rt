@@ -1,15 +1,15 @@
 //! The ready helpers: a case is a text, what is asked about it, and the right answer.
 
-use crate::brackets::{remembers, shows};
 use crate::filename::{AS_LISTED, Broken, IN_ORDER, Way, completes};
 use crate::history::built;
 use crate::{brackets, completion, filename, history_hinter, holds, large, parties};
 use line_config::{ReadlineError, Result};
 use line_parts::{
-    CmdKind, Highlighter, Hint, HistoryHinter, MatchingBracketHighlighter,
-    MatchingBracketValidator, MemHistory, Quote, ValidationContext, ValidationResult, Validator,
+    CmdKind, Highlighter, Hint, HistoryHinter, MatchingBracketHighlighter, MemHistory, Quote,
+    ValidationContext, ValidationResult, Validator,
 };
 use std::alloc::Global;
+use std::borrow::CowStr;
 use std::process::Abort;
 use tests_parties::fault::GONE;
 use tests_parties::shelf::{Failing, Shelf};
@@ -78,6 +78,11 @@ pub(super) fn says<V: Validator>(
     Ok(context.input() == text && said(&verdict) == wanted && !validator.validate_while_typing())
 }
 
+/// Whether this text is shown.
+pub(super) fn is_shown(shown: Result<CowStr<'_>>, wanted: &str) -> bool {
+    matches!(&shown, Ok(shown) if shown.as_str() == wanted)
+}
+
 /// Whether the hint displays this text and completes the line with it; none where there is no text.
 pub(super) fn is_hint<T: Hint>(hint: &Option<T>, wanted: Option<&str>) -> bool {
     match (hint, wanted) {
@@ -95,26 +100,12 @@ pub(super) fn broken_history(alloc: Global) -> Shelf {
 }
 
 /// Whether the answer is the right one. What is also asked with an allocation refused hands its error on.
-fn is_right(rt: &impl Abort, alloc: Global, text: &str, asked: Asked<'_>) -> Result<bool> {
-    match asked {
-        // the unit takes each text
-        Asked::Verdict(name, message) => {
-            let wanted = (name, message);
-            let one = MatchingBracketValidator::new();
-            let other = MatchingBracketValidator::default();
-            let right = says(alloc, &one, text, wanted)? && says(alloc, &other, text, wanted)?;
-            Ok(right && says(alloc, &(), text, ("valid", ""))?)
-        }
-        Asked::Remembered(pos, found) => Ok(remembers(text, pos, found)),
-        Asked::Match(pos, shown) => Ok(shows(rt, alloc, (text, pos, None), text, shown)),
-        Asked::MatchIn(pos, line, shown) => Ok(shows(rt, alloc, (text, pos, None), line, shown)),
-        Asked::MatchAfter(kind, line, shown) => {
-            let told = (text, 0, Some((kind, line)));
-            Ok(shows(rt, alloc, told, text, shown))
-        }
+fn is_right(rt: &impl Abort, alloc: Global, text: &str, asked: &Asked<'_>) -> Result<bool> {
+    match *asked {
         Asked::Hint(lines, index, pos, wanted) => {
             let mut history = MemHistory::new(alloc);
-            let (hinter, hinted) = (HistoryHinter::new(), (text, pos, wanted));
+            let hinter = HistoryHinter::new();
+            let hinted = (text, pos, wanted);
             history_hinter::hints(alloc, &hinter, &mut history, (lines, index), hinted)
         }
         Asked::Plain => Ok(parties::stays(rt, alloc, text)),
@@ -128,14 +119,14 @@ fn is_right(rt: &impl Abort, alloc: Global, text: &str, asked: Asked<'_>) -> Res
             completes(alloc, ways, case, Broken::Call(0), GONE)
         }
         Asked::Many(way, last) => filename::are_many(alloc, text, way, last),
-        _ => completion::is_right(rt, alloc, text, asked),
+        _ => brackets::is_right(rt, alloc, text, asked),
     }
 }
 
 /// Each answer of the table is the right one; or none, where an allocation may be refused.
 pub(super) fn are_right(rt: &impl Abort, alloc: Global, table: &[Case<'_>], may_be_refused: bool) {
     for (row, (text, asked)) in table.iter().enumerate() {
-        let right = match is_right(rt, alloc, text, *asked) {
+        let right = match is_right(rt, alloc, text, asked) {
             Ok(right) => right,
             Err(error) => may_be_refused && matches!(error, ReadlineError::Memory),
         };
@@ -143,7 +134,18 @@ pub(super) fn are_right(rt: &impl Abort, alloc: Global, table: &[Case<'_>], may_
     }
 }
 
-/// Answers about long texts, which are built of pieces, too.
+/// The answer about a long text, which is built of pieces, is the right one.
+fn long_is_right(rt: &impl Abort, alloc: Global, case: &large::Case, row: usize) {
+    let (long, text, wanted, other) = case;
+    let text = built(rt, alloc, text);
+    let wanted = built(rt, alloc, wanted);
+    let other = built(rt, alloc, other);
+    let asked = large::asked_of(long, text.as_str(), wanted.as_str(), other.as_str());
+    let right = is_right(rt, alloc, text.as_str(), &asked).expect(rt, "no fault");
+    holds(rt, right, text.as_str(), row);
+}
+
+/// Answers about long texts too.
 #[test]
 fn answers_are_right(rt: HostRuntime) {
     let alloc = rt.alloc();
@@ -153,13 +155,8 @@ fn answers_are_right(rt: HostRuntime) {
     are_right(&rt, alloc, completion::CASES, false);
     are_right(&rt, alloc, history_hinter::CASES, false);
     are_right(&rt, alloc, filename::CASES, false);
-    for (row, (long, text, wanted, other)) in large::CASES.iter().enumerate() {
-        let text = built(&rt, alloc, text);
-        let wanted = built(&rt, alloc, wanted);
-        let other = built(&rt, alloc, other);
-        let asked = large::asked_of(long, text.as_str(), wanted.as_str(), other.as_str());
-        let right = is_right(&rt, alloc, text.as_str(), asked).expect(&rt, "no fault");
-        holds(&rt, right, text.as_str(), row);
+    for (row, case) in large::CASES.iter().enumerate() {
+        long_is_right(&rt, alloc, case, row);
     }
 }
 
@@ -203,6 +200,14 @@ const REFUSED: &[Case<'_>] = &[
     ),
 ];
 
+/// Whether the bracket that the highlighter remembers is shown, or an allocation was refused.
+fn is_lit_or_refused(alloc: Global, highlighter: &MatchingBracketHighlighter) -> bool {
+    match highlighter.highlight(alloc, "日(é)", 3) {
+        Ok(shown) => shown.as_str() == "日(é\x1b[1;34m)\x1b[0m",
+        Err(error) => matches!(error, ReadlineError::Memory),
+    }
+}
+
 /// Run with any one allocation refused, this passes: every answer is the right one, and the bracket is remembered.
 #[test]
 fn a_refused_allocation_has_no_answer(rt: HostRuntime) {
@@ -211,10 +216,6 @@ fn a_refused_allocation_has_no_answer(rt: HostRuntime) {
     let mut highlighter = MatchingBracketHighlighter::new();
     assert!(rt; highlighter.highlight_char("日(é)", 3, CmdKind::MoveCursor));
     for _ in 0..3 {
-        let right = match highlighter.highlight(rt.alloc(), "日(é)", 3) {
-            Ok(shown) => shown.as_str() == "日(é\x1b[1;34m)\x1b[0m",
-            Err(error) => matches!(error, ReadlineError::Memory),
-        };
-        assert!(rt; right);
+        assert!(rt; is_lit_or_refused(rt.alloc(), &highlighter));
     }
 }

@@ -10,7 +10,7 @@ use line_config::{
     Behavior, BellStyle, Builder, ColorMode, CompletionType, Config, Configurer, EditMode,
     HistoryDuplicates, Prompt, ReadlineError,
 };
-use std::alloc::{AllocError, AllocFailed};
+use std::alloc::{AllocError, AllocFailed, Global};
 use std::fmt;
 use std::io::{self, ErrorKind};
 use std::process::Abort;
@@ -407,35 +407,44 @@ const ERRORS: &[Error] = &[
     (Cause::OutOfMemory, Some("out of memory"), None, None),
 ];
 
+/// Whether an error is told by its cause.
+fn is_told(rt: &impl Abort, alloc: Global, told: &Error) -> bool {
+    let (cause, text, name, kind) = told;
+    let error = error_of(cause);
+    let found = match &error {
+        ReadlineError::Io(cause) => Some(cause.kind()),
+        _ => None,
+    };
+    let shown = error.to_string(alloc).expect(rt, "no fault");
+    let is_shown = shown.as_str() == text.unwrap_or(shown.as_str());
+    let named = debug_text(rt, alloc, error);
+    is_shown && named.as_str() == name.unwrap_or(named.as_str()) && found == *kind
+}
+
+/// Whether a prompt has these two forms.
+fn is_prompt<P: Prompt>(prompt: &P, raw: &str, styled: &str) -> bool {
+    (prompt.raw(), prompt.styled()) == (raw, styled)
+}
+
+/// Of a prompt the raw form comes first.
+fn are_prompts(rt: &impl Abort, alloc: Global) -> bool {
+    let raw = String::from_str(alloc, "> ").expect(rt, "no fault");
+    let is_owned = is_prompt(&raw, "> ", "> ");
+    let styled = String::from_str(alloc, "\x1b[1m> \x1b[0m").expect(rt, "no fault");
+    let are_owned = is_prompt(&(raw, styled), "> ", "\x1b[1m> \x1b[0m");
+    is_prompt(&"> ", "> ", "> ")
+        && is_prompt(&("> ", "styled"), "> ", "styled")
+        && is_owned
+        && are_owned
+}
+
 /// Errors are told by their cause; of a prompt the raw form comes first.
 #[test]
 fn errors_and_prompts(rt: HostRuntime) {
-    for (index, (cause, text, name, kind)) in ERRORS.iter().enumerate() {
-        let error = error_of(cause);
-        let shown = error.to_string(rt.alloc()).expect(&rt, "no fault");
-        let found = match &error {
-            ReadlineError::Io(cause) => Some(cause.kind()),
-            _ => None,
-        };
-        let named = debug_text(&rt, rt.alloc(), error);
-        let is_shown = shown.as_str() == text.unwrap_or(shown.as_str());
-        let is_named = named.as_str() == name.unwrap_or(named.as_str());
-        holds(&rt, is_shown && is_named && found == *kind, "row", index);
+    for (index, told) in ERRORS.iter().enumerate() {
+        holds(&rt, is_told(&rt, rt.alloc(), told), "row", index);
     }
     let shown = OutOfMemory.to_string(rt.alloc()).expect(&rt, "no fault");
     holds(&rt, shown.as_str() == "out of memory", "error", 0);
-    let plain = ("> ", ("> ", "styled"));
-    let is_plain = (plain.0.raw(), plain.0.styled()) == ("> ", "> ");
-    let is_styled = (plain.1.raw(), plain.1.styled()) == ("> ", "styled");
-    let raw = String::from_str(rt.alloc(), "> ").expect(&rt, "no fault");
-    let is_owned = (raw.raw(), raw.styled()) == ("> ", "> ");
-    let styled = String::from_str(rt.alloc(), "\x1b[1m> \x1b[0m").expect(&rt, "no fault");
-    let both = (raw, styled);
-    let are_owned = (both.raw(), both.styled()) == ("> ", "\x1b[1m> \x1b[0m");
-    holds(
-        &rt,
-        is_plain && is_styled && is_owned && are_owned,
-        "prompts",
-        0,
-    );
+    holds(&rt, are_prompts(&rt, rt.alloc()), "prompts", 0);
 }

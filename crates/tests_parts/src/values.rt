@@ -194,35 +194,51 @@ const QUOTES: &[(Quote, &str)] = &[
 
 const ESCAPES: &[(Escapes, &str)] = &[(Escapes::V2, "V2"), (Escapes::V3, "V3")];
 
+/// No two of these are equal: what the line buffer takes and gives.
+fn of_lines(rt: &impl Abort, alloc: Global) {
+    are_distinct(rt, alloc, WORDS);
+    are_distinct(rt, alloc, PLACES);
+    are_distinct(rt, alloc, SEARCHES);
+    are_distinct(rt, alloc, MODES);
+    are_distinct(rt, alloc, CLUSTERS);
+    are_distinct(rt, alloc, ACTIONS);
+    are_distinct(rt, alloc, SIDES);
+    are_distinct(rt, alloc, POSITIONS);
+    are_distinct(rt, alloc, MOVEMENTS);
+    are_distinct(rt, alloc, &[(OutOfMemory, "OutOfMemory")]);
+}
+
+/// No two of these are equal: settings, and what the parts take.
+fn of_settings(rt: &impl Abort, alloc: Global) {
+    are_distinct(rt, alloc, BELLS);
+    are_distinct(rt, alloc, DUPLICATES);
+    are_distinct(rt, alloc, COMPLETIONS);
+    are_distinct(rt, alloc, STYLES);
+    are_distinct(rt, alloc, COLORS);
+    are_distinct(rt, alloc, BEHAVIORS);
+    are_distinct(rt, alloc, KINDS);
+    are_distinct(rt, alloc, DIRECTIONS);
+    are_distinct(rt, alloc, QUOTES);
+    are_distinct(rt, alloc, ESCAPES);
+}
+
+/// Whether two places are in the order of their places in the list, by each comparison.
+fn are_in_order(one: &Position, other: &Position, index: usize, place: usize) -> bool {
+    let order = index.cmp(&place);
+    one.cmp(other) == order
+        && one.partial_cmp(other) == Some(order)
+        && (*one < *other) == (index < place)
+}
+
 /// No two of a list are equal, copies included, and `Debug` names each. Positions are in order, by each comparison.
 #[test]
 fn no_two_are_equal(rt: HostRuntime) {
-    let (alloc, positions) = (rt.alloc(), POSITIONS);
-    are_distinct(&rt, alloc, WORDS);
-    are_distinct(&rt, alloc, PLACES);
-    are_distinct(&rt, alloc, SEARCHES);
-    are_distinct(&rt, alloc, MODES);
-    are_distinct(&rt, alloc, CLUSTERS);
-    are_distinct(&rt, alloc, ACTIONS);
-    are_distinct(&rt, alloc, SIDES);
-    are_distinct(&rt, alloc, positions);
-    are_distinct(&rt, alloc, MOVEMENTS);
-    are_distinct(&rt, alloc, &[(OutOfMemory, "OutOfMemory")]);
-    are_distinct(&rt, alloc, BELLS);
-    are_distinct(&rt, alloc, DUPLICATES);
-    are_distinct(&rt, alloc, COMPLETIONS);
-    are_distinct(&rt, alloc, STYLES);
-    are_distinct(&rt, alloc, COLORS);
-    are_distinct(&rt, alloc, BEHAVIORS);
-    are_distinct(&rt, alloc, KINDS);
-    are_distinct(&rt, alloc, DIRECTIONS);
-    are_distinct(&rt, alloc, QUOTES);
-    are_distinct(&rt, alloc, ESCAPES);
+    of_lines(&rt, rt.alloc());
+    of_settings(&rt, rt.alloc());
+    let positions = POSITIONS;
     for (index, (one, name)) in positions.iter().enumerate() {
         for (place, (other, _)) in positions.iter().enumerate() {
-            let order = index.cmp(&place);
-            let same = one.cmp(other) == order && one.partial_cmp(other) == Some(order);
-            holds(&rt, same && (*one < *other) == (index < place), name, place);
+            holds(&rt, are_in_order(one, other, index, place), name, place);
         }
     }
 }

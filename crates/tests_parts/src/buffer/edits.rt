@@ -70,21 +70,21 @@ fn handed(
     requires { Tells changes.old.entries line.old.text }
     ensures { OnOk result (Tells changes.new.entries line.new.text) }
 {
-    let outcome = match call {
-        Yank(n) => return line.yank(text, *n, changes),
-        YankPop(size) => return line.yank_pop(*size, text, changes),
+    let outcome = match *call {
+        Yank(n) => return line.yank(text, n, changes),
+        YankPop(size) => return line.yank_pop(size, text, changes),
         InsertText(place) => {
-            assert!(rt; line.as_str().is_char_boundary(*place) && line.pos() <= *place);
-            line.insert_str(*place, text, changes)
+            assert!(rt; line.as_str().is_char_boundary(place) && line.pos() <= place);
+            line.insert_str(place, text, changes)
         }
         Update(pos) => {
-            assert!(rt; text.is_char_boundary(*pos));
-            line.update(text, *pos, changes)
+            assert!(rt; text.is_char_boundary(pos));
+            line.update(text, pos, changes)
         }
         Replace(start, end) => {
-            assert!(rt; start <= end && line.as_str().is_char_boundary(*start));
-            assert!(rt; line.as_str().is_char_boundary(*end));
-            line.replace(*start..*end, text, changes)
+            assert!(rt; start <= end && line.as_str().is_char_boundary(start));
+            assert!(rt; line.as_str().is_char_boundary(end));
+            line.replace(start..end, text, changes)
         }
     };
     outcome?;
@@ -93,46 +93,6 @@ fn handed(
 
 /// Makes the call. Its answer, where it has one, or whether it gives what is wanted.
 pub(super) fn edited(
-    rt: &impl Abort,
-    alloc: Global,
-    line: &mut LineBuffer,
-    changes: &mut Changeset,
-    ring: &mut KillRing,
-    step: &Edit,
-) -> Result<Option<bool>, OutOfMemory>
-    requires { Tells changes.old.entries line.old.text }
-    ensures { OnOk result (Tells changes.new.entries line.new.text) }
-{
-    let answer = match step {
-        Insert(c, n) => line.insert(*c, *n, changes),
-        Delete(n) => Ok(line.delete(*n, changes)?.is_some()),
-        Discard(n) => line.discard(*n, changes),
-        TransposeChars => line.transpose_chars(changes),
-        TransposeWords(n) => line.transpose_words(*n, changes),
-        EditWord(action) => line.edit_word(*action, changes),
-        Indent(mvt, amount) => line.indent(mvt, *amount, false, changes),
-        Dedent(mvt, amount) => line.indent(mvt, *amount, true, changes),
-        End => return Ok(Some(changes.end()?)),
-        Undo(n) => changes.undo(line, *n),
-        Copy(mvt, wanted) => {
-            return Ok(Some(is_given(line.copy(mvt)?.as_deref(), *wanted)));
-        }
-        LastInsert(wanted) => {
-            return Ok(Some(is_given(changes.last_insert()?.as_deref(), *wanted)));
-        }
-        Deleted(n, wanted) => {
-            return Ok(Some(is_given(line.delete(*n, changes)?.as_deref(), *wanted)));
-        }
-        Kill(mvt, gone) => {
-            return Ok(Some(is_killed(&line.kill(mvt, changes, ring)?, ring, gone)));
-        }
-        _ => return composed(rt, alloc, line, changes, ring, step),
-    };
-    Ok(Some(answer?))
-}
-
-/// Makes a call that answers nothing or is handed a text, or several calls.
-fn composed(
     rt: &impl Abort,
     alloc: Global,
     line: &mut LineBuffer,
@@ -154,23 +114,82 @@ fn composed(
             *place
         }
         Go(place) => *place,
-        Begin => {
-            changes.begin()?;
-            return Ok(None);
-        }
-        Group => {
-            changes.begin()?;
-            let _ = line.insert('a', 1, changes)?;
-            return Ok(Some(changes.end()?));
+        _ => return given(line, changes, ring, step),
+    };
+    assert!(rt; line.as_str().is_char_boundary(place));
+    line.set_pos(place);
+    Ok(None)
+}
+
+/// Makes a call that gives a text, or that answers.
+fn given(
+    line: &mut LineBuffer,
+    changes: &mut Changeset,
+    ring: &mut KillRing,
+    step: &Edit,
+) -> Result<Option<bool>, OutOfMemory>
+    requires { Tells changes.old.entries line.old.text }
+    ensures { OnOk result (Tells changes.new.entries line.new.text) }
+{
+    let (text, wanted) = match step {
+        Copy(mvt, wanted) => (line.copy(mvt)?, wanted),
+        LastInsert(wanted) => (changes.last_insert()?, wanted),
+        Deleted(n, wanted) => (line.delete(*n, changes)?, wanted),
+        Kill(mvt, gone) => {
+            return Ok(Some(is_killed(&line.kill(mvt, changes, ring)?, ring, gone)));
         }
         Cut(mvt, kept) => {
             line.cut(mvt, changes, ring)?;
             return Ok(Some(is_given(ring.yank(), *kept)));
         }
-        _ => return Ok(None),
+        _ => return changed(line, changes, step),
     };
-    assert!(rt; line.as_str().is_char_boundary(place));
-    line.set_pos(place);
+    Ok(Some(is_given(text.as_deref(), *wanted)))
+}
+
+/// Makes a call that answers, or that is of a group.
+fn changed(
+    line: &mut LineBuffer,
+    changes: &mut Changeset,
+    step: &Edit,
+) -> Result<Option<bool>, OutOfMemory>
+    requires { Tells changes.old.entries line.old.text }
+    ensures { OnOk result (Tells changes.new.entries line.new.text) }
+{
+    let answer = match step {
+        Insert(c, n) => line.insert(*c, *n, changes),
+        Delete(n) => Ok(line.delete(*n, changes)?.is_some()),
+        Discard(n) => line.discard(*n, changes),
+        TransposeChars => line.transpose_chars(changes),
+        TransposeWords(n) => line.transpose_words(*n, changes),
+        EditWord(action) => line.edit_word(*action, changes),
+        Indent(mvt, amount) => line.indent(mvt, *amount, false, changes),
+        Dedent(mvt, amount) => line.indent(mvt, *amount, true, changes),
+        Undo(n) => changes.undo(line, *n),
+        _ => return grouped(line, changes, step),
+    };
+    Ok(Some(answer?))
+}
+
+/// Begins or ends a group, or makes one.
+fn grouped(
+    line: &mut LineBuffer,
+    changes: &mut Changeset,
+    step: &Edit,
+) -> Result<Option<bool>, OutOfMemory>
+    requires { Tells changes.old.entries line.old.text }
+    ensures { OnOk result (Tells changes.new.entries line.new.text) }
+{
+    match step {
+        Begin => changes.begin()?,
+        End => return Ok(Some(changes.end()?)),
+        Group => {
+            changes.begin()?;
+            let _ = line.insert('a', 1, changes)?;
+            return Ok(Some(changes.end()?));
+        }
+        _ => {}
+    }
     Ok(None)
 }
 
@@ -206,6 +225,31 @@ pub(super) enum Wanted {
 /// A call on a line, and what it leaves.
 pub(super) type Row = (Line, Edit, Wanted);
 
+/// Makes the line that a call is made on, where it is a new one.
+fn begun(
+    rt: &impl Abort,
+    alloc: Global,
+    line: &mut LineBuffer,
+    changes: &mut Changeset,
+    ring: &mut KillRing,
+    start: &Line,
+)
+    requires { Tells changes.old.entries line.old.text }
+    ensures { Tells changes.new.entries line.new.text }
+{
+    let (text, count, pos) = match start {
+        On(text, pos) => (*text, 1, *pos),
+        Of(text, count, pos) => (*text, *count, *pos),
+        Often(_) => ("", 0, 0),
+        Then => return,
+    };
+    let text = text.repeat(alloc, count).expect(rt, "no fault");
+    assert!(rt; text.as_str().is_char_boundary(pos));
+    *line = LineBuffer::init(alloc, text.as_str(), pos).expect(rt, "no fault");
+    *changes = Changeset::new(alloc);
+    *ring = KillRing::new(alloc, 2);
+}
+
 fn leaves(
     rt: &impl Abort,
     alloc: Global,
@@ -218,22 +262,11 @@ fn leaves(
     ensures { Tells changes.new.entries line.new.text }
 {
     let (start, step, wanted) = row;
-    let mut times = 1;
-    if !matches!(start, Then) {
-        let (text, count, pos) = match start {
-            On(text, pos) => (*text, 1, *pos),
-            Of(text, count, pos) => (*text, *count, *pos),
-            _ => ("", 0, 0),
-        };
-        let text = text.repeat(alloc, count).expect(rt, "no fault");
-        assert!(rt; text.as_str().is_char_boundary(pos), "{pos} in {text:?}");
-        *line = LineBuffer::init(alloc, text.as_str(), pos).expect(rt, "no fault");
-        *changes = Changeset::new(alloc);
-        *ring = KillRing::new(alloc, 2);
-    }
-    if let Often(count) = start {
-        times = *count;
-    }
+    begun(rt, alloc, line, changes, ring, start);
+    let times = match start {
+        Often(count) => *count,
+        _ => 1,
+    };
     let mut answer = None;
     for _time in 0..times {
         answer = edited(rt, alloc, line, changes, ring, step).expect(rt, "no fault");

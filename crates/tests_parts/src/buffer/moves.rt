@@ -6,6 +6,8 @@ use crate::holds;
 use line_buffer::At::{self, *};
 use line_buffer::Word::{self, *};
 use line_buffer::{CharSearch as Search, GraphemeClusterMode, Layout, LineBuffer, RepeatCount};
+use std::alloc::Global;
+use std::process::Abort;
 
 /// A call that moves the cursor. It says whether it finds a place.
 enum Move {
@@ -290,33 +292,44 @@ const MOVES: &[Case] = &[
     (" a ", 0, Stands(Some(1), None, false, false), Some(0)),
 ];
 
+/// Makes the call. Whether it finds a place.
+fn moved(line: &mut LineBuffer, layout: &Layout, step: &Move) -> bool {
+    match *step {
+        Forward(n) => line.move_forward(n),
+        Backward(n) => line.move_backward(n),
+        Home => line.move_home(),
+        End => line.move_end(),
+        BufferStart => line.move_buffer_start(),
+        BufferEnd => line.move_buffer_end(),
+        NextWord(at, word, n) => line.move_to_next_word(at, word, n),
+        PrevWord(word, n) => line.move_to_prev_word(word, n),
+        ToChar(search, n) => line.move_to(search, n),
+        LineUp(n) => line.move_to_line_up(n, layout),
+        LineDown(n) => line.move_to_line_down(n, layout),
+        Stands(next, prev, at_end, white) => {
+            (line.next_pos(1), line.prev_pos(1)) == (next, prev)
+                && (line.is_cursor_at_end(), line.is_end_of_input()) == (at_end, white)
+        }
+    }
+}
+
+/// Whether the call finds the place, or leaves the cursor where it is, and leaves the text as it is.
+fn is_right(rt: &impl Abort, alloc: Global, layout: &Layout, case: &Case) -> bool {
+    let (text, pos, step, place) = case;
+    assert!(rt; text.is_char_boundary(*pos));
+    let mut line = LineBuffer::init(alloc, text, *pos).expect(rt, "no fault");
+    let found = moved(&mut line, layout, step);
+    let stands = found == place.is_some() && line.pos() == place.unwrap_or(*pos);
+    stands && (line.is_empty(), line.len()) == (text.is_empty(), text.len())
+}
+
 /// The calls are made on a screen whose prompt takes two columns.
 #[test]
 fn of_the_cursor(rt: HostRuntime) {
     let mut layout = Layout::new(GraphemeClusterMode::Unicode);
     layout.prompt_size.col = 2;
-    for (index, (text, pos, step, place)) in MOVES.iter().enumerate() {
-        assert!(&rt; text.is_char_boundary(*pos), "{pos} in {text:?}");
-        let mut line = LineBuffer::init(rt.alloc(), text, *pos).expect(&rt, "no fault");
-        let found = match step {
-            Forward(n) => line.move_forward(*n),
-            Backward(n) => line.move_backward(*n),
-            Home => line.move_home(),
-            End => line.move_end(),
-            BufferStart => line.move_buffer_start(),
-            BufferEnd => line.move_buffer_end(),
-            NextWord(at, word, n) => line.move_to_next_word(*at, *word, *n),
-            PrevWord(word, n) => line.move_to_prev_word(*word, *n),
-            ToChar(search, n) => line.move_to(*search, *n),
-            LineUp(n) => line.move_to_line_up(*n, &layout),
-            LineDown(n) => line.move_to_line_down(*n, &layout),
-            Stands(next, prev, at_end, white) => {
-                (line.next_pos(1), line.prev_pos(1)) == (*next, *prev)
-                    && (line.is_cursor_at_end(), line.is_end_of_input()) == (*at_end, *white)
-            }
-        };
-        let stands = found == place.is_some() && line.pos() == place.unwrap_or(*pos);
-        let whole = line.is_empty() == text.is_empty() && line.len() == text.len();
-        holds(&rt, stands && whole, text, index);
+    for (index, case) in MOVES.iter().enumerate() {
+        let right = is_right(&rt, rt.alloc(), &layout, case);
+        holds(&rt, right, case.0, index);
     }
 }

@@ -76,8 +76,19 @@ const ROWS: &[Row] = &[
     ),
 ];
 
-/// Whether the call is refused. The line is then as it was before, where the call changes nothing or there is never
-/// memory enough; else the list is empty with no open group, and the cursor stands on a boundary.
+/// Whether the line is as it was before, where the call changes nothing or there is never memory enough; else the list is
+/// empty with no open group, and the cursor stands on a boundary.
+fn stands(line: &LineBuffer, changes: &mut Changeset, (start, step, wanted): &Row) -> bool {
+    if matches!(step, Copy(..) | LastInsert(..)) {
+        return changes.len() == 1 && line.as_str() == "aé日 b日";
+    }
+    let stays = line.pos() == 3 && line.as_str() == TEXT;
+    let changes_nothing = matches!((start, step, wanted), (On(..), Begin, _) | (_, _, Never));
+    let settled = changes.is_empty() && matches!(changes.end(), Ok(false));
+    settled && line.as_str().is_char_boundary(line.pos()) && (stays || !changes_nothing)
+}
+
+/// Whether the call is refused. The line is then as it is to be.
 fn is_refused(
     rt: &impl Abort,
     alloc: Global,
@@ -89,25 +100,13 @@ fn is_refused(
     requires { Tells changes.old.entries line.old.text }
     ensures { Tells changes.new.entries line.new.text }
 {
-    let (start, step, wanted) = row;
-    match edited(rt, alloc, line, changes, ring, step) {
+    match edited(rt, alloc, line, changes, ring, &row.1) {
         Ok(answer) => {
-            is_left(rt, line, changes, answer, wanted);
+            is_left(rt, line, changes, answer, &row.2);
             false
         }
         Err(OutOfMemory) => {
-            let found = if matches!(step, Copy(..) | LastInsert(..)) {
-                changes.len() == 1 && line.as_str() == "aé日 b日"
-            } else {
-                let stays = line.pos() == 3 && line.as_str() == TEXT;
-                let changes_nothing = matches!(
-                    (start, step, wanted),
-                    (On(..), Begin, _) | (_, _, Never)
-                );
-                let settled = changes.is_empty() && matches!(changes.end(), Ok(false));
-                let stands = line.as_str().is_char_boundary(line.pos());
-                settled && stands && (stays || !changes_nothing)
-            };
+            let found = stands(line, changes, row);
             holds(rt, found, line.as_str(), line.pos());
             *changes = Changeset::new(alloc);
             true

@@ -105,25 +105,27 @@ pub(crate) enum Which {
     Stubborn(Option<Fault>, Option<Fault>),
 }
 
+/// Whether a completer does so, alone and in a box.
+fn asks_in_a_box<C: Completer + Drop>(
+    rt: &impl Abort,
+    alloc: Global,
+    completer: C,
+    put: Put<'_>,
+    faults: (Option<Fault>, Option<Fault>),
+) -> bool {
+    let alone = asks(rt, alloc, &completer, put, faults);
+    let boxed = Box::new(alloc, completer).expect(rt, "no fault");
+    alone && asks(rt, alloc, &boxed, put, faults)
+}
+
 /// Whether this completer does so.
 pub(super) fn elects(rt: &impl Abort, alloc: Global, which: Which, put: Put<'_>) -> bool {
-    let sure = (None, None);
     match which {
-        Which::Unit => {
-            let boxed = Box::new(alloc, ()).expect(rt, "no fault");
-            asks(rt, alloc, &(), put, sure) && asks(rt, alloc, &boxed, put, sure)
-        }
-        Which::Plain => {
-            let boxed = Box::new(alloc, Plain).expect(rt, "no fault");
-            asks(rt, alloc, &Plain, put, sure) && asks(rt, alloc, &boxed, put, sure)
-        }
+        Which::Unit => asks_in_a_box(rt, alloc, (), put, (None, None)),
+        Which::Plain => asks_in_a_box(rt, alloc, Plain, put, (None, None)),
         Which::Stubborn(completes, updates) => {
-            let faults = (completes, updates);
-            let stubborn = Stubborn { completes, updates };
-            let boxed = Box::new(alloc, stubborn).expect(rt, "no fault");
-            let once = asks(rt, alloc, &boxed, put, faults);
-            let twice = Box::new(alloc, boxed).expect(rt, "no fault");
-            once && asks(rt, alloc, &twice, put, faults)
+            let boxed = Box::new(alloc, Stubborn { completes, updates }).expect(rt, "no fault");
+            asks_in_a_box(rt, alloc, boxed, put, (completes, updates))
         }
     }
 }

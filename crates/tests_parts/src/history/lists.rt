@@ -44,18 +44,18 @@ pub(super) enum Step {
 
 /// A call of any history.
 fn stepped<H: History>(rt: &impl Abort, alloc: Global, history: &mut H, step: &Step) {
-    let outcome = match step {
-        Limit(len) => history.set_max_len(*len),
-        IgnoreDups(yes) => history.ignore_dups(*yes),
+    let outcome = match *step {
+        Limit(len) => history.set_max_len(len),
+        IgnoreDups(yes) => history.ignore_dups(yes),
         Clear => history.clear(),
-        IgnoreSpace(yes) => return history.ignore_space(*yes),
+        IgnoreSpace(yes) => return history.ignore_space(yes),
         Add(line, taken) | AddOwned(line, taken) => {
             let owned = matches!(step, AddOwned(..));
             let answer = added(alloc, history, line, owned).expect(rt, "no fault");
-            return holds(rt, answer == *taken, line, 0);
+            return holds(rt, answer == taken, line, 0);
         }
-        Many(lines) => return fills(rt, alloc, history, lines_of(rt, alloc, *lines).as_str()),
-        Has(lines) => return gives(rt, history, lines_of(rt, alloc, *lines).as_str()),
+        Many(lines) => return fills(rt, alloc, history, lines_of(rt, alloc, lines).as_str()),
+        Has(lines) => return gives(rt, history, lines_of(rt, alloc, lines).as_str()),
         _ => return holds(rt, false, "a call of any history", 0),
     };
     outcome.expect(rt, "no fault");
@@ -63,21 +63,19 @@ fn stepped<H: History>(rt: &impl Abort, alloc: Global, history: &mut H, step: &S
 
 /// A call of a history that can be saved.
 fn file_stepped(rt: &impl Abort, alloc: Global, history: &mut FileHistory, step: &Step) {
-    let (escapes, append, text) = match step {
+    let (escapes, append, text) = match *step {
         Save(text) => (V2, false, text),
         Append(text) => (V2, true, text),
         SaveV3(text) => (V3, false, text),
         AppendV3(text) => (V3, true, text),
         Load(text, wanted) => {
             let answer = history.load_from(text.as_bytes()).expect(rt, "no fault");
-            holds(rt, answer == *wanted, text, 0);
-            return;
+            return holds(rt, answer == wanted, text, 0);
         }
         LoadBytes(text) => {
-            let outcome = history.load_from(*text);
+            let outcome = history.load_from(text);
             let answer = answer_of(rt, alloc, outcome, ErrorKind::InvalidData, "");
-            assert!(rt; answer.is_none(), "{text:?}");
-            return;
+            return holds(rt, answer.is_none(), "not UTF-8", text.len());
         }
         _ => return stepped(rt, alloc, history, step),
     };

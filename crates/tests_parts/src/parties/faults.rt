@@ -6,7 +6,7 @@ use line_config::Result;
 use line_parts::{Context, Helper, History, Parties};
 use std::alloc::Global;
 use std::process::Abort;
-use tests_parties::advisor::Verdict;
+use tests_parties::advisor::{Advisor, Verdict};
 use tests_parties::fault::Fault;
 
 /// The right answer: a hint, if there is one, or the name and message of a validation result.
@@ -16,31 +16,27 @@ pub(super) enum Answer {
     Verdict(&'static str, &'static str),
 }
 
-/// Whether a line with the cursor at its end is answered so.
+/// Whether a line is answered so.
 fn answered<H: Helper, S: History>(
     parties: &Parties<'_, H, S>,
     alloc: Global,
-    text: &str,
+    line: &LineBuffer,
     wanted: Answer,
 ) -> Result<bool> {
-    if !text.is_char_boundary(text.len()) {
-        return Ok(false);
-    }
-    let line = LineBuffer::init(alloc, text, text.len())?;
     match wanted {
-        Answer::Hint(hint) => match parties.hint(alloc, &line) {
+        Answer::Hint(hint) => match parties.hint(alloc, line) {
             Ok(found) => Ok(is_hint(&found, hint)),
             Err(error) => Err(error),
         },
-        Answer::Verdict(name, message) => match parties.validate(alloc, &line) {
+        Answer::Verdict(name, message) => match parties.validate(alloc, line) {
             Ok(verdict) => Ok(said(&verdict) == (name, message)),
             Err(error) => Err(error),
         },
     }
 }
 
-/// Whether an editor gets this answer of a helper, or of none, about a text; or the fault where there is one, and then the
-/// answer. No history is asked, so it does not matter that this one fails in each call.
+/// Whether an editor gets this answer of a helper, or of none, about a text, with the cursor at its end; or the fault where
+/// there is one, and then the answer. No history is asked, so it does not matter that this one fails in each call.
 pub(super) fn answers<H: Helper>(
     rt: &impl Abort,
     alloc: Global,
@@ -51,17 +47,30 @@ pub(super) fn answers<H: Helper>(
 ) -> bool {
     let history = broken_history(alloc);
     let parties = Parties::new(helper, Context::new(&history));
-    let outcome = answered(&parties, alloc, text, wanted);
-    let Some(fault) = fault else {
-        return outcome.expect(rt, "no fault");
+    if !text.is_char_boundary(text.len()) {
+        return false;
+    }
+    let line = LineBuffer::init(alloc, text, text.len()).expect(rt, "no fault");
+    let comes = match fault {
+        Some(fault) => fault.is_answer(alloc, &answered(&parties, alloc, &line, wanted)),
+        None => Ok(true),
     };
-    let again = answered(&parties, alloc, text, wanted).expect(rt, "no fault");
-    again && fault.is_answer(alloc, &outcome).expect(rt, "no fault")
+    let again = answered(&parties, alloc, &line, wanted).expect(rt, "no fault");
+    again && comes.expect(rt, "no fault")
 }
 
 /// The hint and the validation result of a helper, the number of its answer that fails, the right answer, and whether
 /// there is the fault instead.
 pub(super) type Case = ((Option<&'static str>, Verdict), u64, Answer, bool);
+
+/// Whether the answer of a row is handed on, or the fault where it is to come.
+pub(super) fn hands_on(rt: &impl Abort, alloc: Global, case: &Case, fault: Fault) -> bool {
+    let ((hint, verdict), failing, wanted, faulty) = *case;
+    let mut advisor = Advisor::new(hint, verdict, None);
+    advisor.fail_by(failing, fault);
+    let comes = if faulty { Some(fault) } else { None };
+    answers(rt, alloc, Some(&mut advisor), "ab", wanted, comes)
+}
 
 /// A hint, and a line that is invalid.
 const NO: (Option<&str>, Verdict) = (Some("!"), (true, false, Some("no")));
