@@ -30,13 +30,64 @@ fn does(
 ) -> Result<()> {
     let config = Config::new(GraphemeClusterMode::Unicode);
     for step in steps.split("; ") {
-        match executed(alloc, state, input, kills, &config, step) {
-            Some(Ok(_) | Err(ReadlineError::Interrupted | ReadlineError::Eof)) => {}
-            Some(Err(error)) => return Err(error),
-            None => panic!(rt; "no such step in {steps}"),
-        }
+        let outcome = executed(alloc, state, input, kills, &config, step);
+        ends_well(rt, outcome, step)?;
     }
     Ok(())
+}
+
+/// There is such a step. Its error, where it has one that is not the end of the line.
+fn ends_well(rt: &impl Abort, outcome: Option<Result<&'static str>>, step: &str) -> Result<()> {
+    match outcome {
+        Some(Ok(_) | Err(ReadlineError::Interrupted | ReadlineError::Eof)) => Ok(()),
+        Some(Err(error)) => Err(error),
+        None => {
+            holds(rt, false, step, 0);
+            Ok(())
+        }
+    }
+}
+
+/// The line before and after its cursor, which is on a boundary.
+fn at<'l>(rt: &impl Abort, state: &'l Editor<'_, '_>) -> (&'l str, &'l str) {
+    let (line, pos) = (state.line(), state.pos());
+    assert!(rt; line.is_char_boundary(pos));
+    (&line[..pos], &line[pos..])
+}
+
+/// An editor of a line with its cursor, which is on a boundary, after these prompts.
+fn edits<'out, 'prompt>(
+    rt: &impl Abort,
+    alloc: Global,
+    screen: &'out mut Recorder,
+    prompts: &'prompt (String, String),
+    helper: &'out mut Advisor,
+    history: &'out Shelf,
+    (text, cursor): (&str, usize),
+) -> Result<Editor<'out, 'prompt>> {
+    assert!(rt; text.is_char_boundary(cursor));
+    let context = Context::new(history);
+    State::with_line(alloc, screen, prompts, Some(helper), context, text, cursor)
+}
+
+/// A prompt twice.
+fn prompts(alloc: Global) -> Result<(String, String)> {
+    Ok((
+        String::from_str(alloc, "> ")?,
+        String::from_str(alloc, "> ")?,
+    ))
+}
+
+/// A history of so many lines: each is `line` and a number of four digits, the first 1000.
+fn shelved(rt: &impl Abort, alloc: Global, lines: u64) -> Shelf {
+    let mut history = Shelf::new(alloc, 0);
+    history.set_max_len(5000).expect(rt, "no fault");
+    for line in 0..lines {
+        let number = line.saturating_add(1000);
+        let text = format!(in alloc; "line{number}").expect(rt, "no fault");
+        let _ = history.add_owned(text).expect(rt, "no fault");
+    }
+    history
 }
 
 /// The columns, what is typed after a prompt that ends on the last row there is, the calls of the renderer, and the column
@@ -77,17 +128,25 @@ fn on_the_last_row(rt: HostRuntime) {
 /// What `Debug` writes of a state has each of these pieces.
 const PIECES: &[&str] = &["State", "\"日本\"", "pos: 3", "history_index: 2", "Layout"];
 
+/// An editor whose prompt is borrowed.
+type Written<'out, 'prompt> = State<'out, 'prompt, Recorder, Advisor, &'static str, Shelf>;
+
+/// What `Debug` writes of a state.
+fn written(rt: &impl Abort, alloc: Global, state: &Written<'_, '_>) -> String {
+    let mut formatter = Formatter::new(String::new(alloc));
+    assert!(rt; state.fmt(&mut formatter).is_ok());
+    formatter.into_inner()
+}
+
 #[test]
 fn is_written(rt: HostRuntime) {
     let alloc = rt.alloc();
-    let mut history = Shelf::new(alloc, 0);
-    let _ = history.add("one").expect(&rt, "no fault");
-    let _ = history.add("two").expect(&rt, "no fault");
+    let history = shelved(&rt, alloc, 2);
     let mut screen = Recorder::new(alloc, 80, false, 0);
     let context = Context::new(&history);
     let text = "日本";
     assert!(rt; text.is_char_boundary(3));
-    let state: State<'_, '_, Recorder, Advisor, &str, Shelf> = State::with_line(
+    let state: Written<'_, '_> = State::with_line(
         alloc,
         &mut screen,
         &"> ",
@@ -96,9 +155,7 @@ fn is_written(rt: HostRuntime) {
         text,
         3,
     ).expect(&rt, "no fault");
-    let mut formatter = Formatter::new(String::new(alloc));
-    assert!(rt; state.fmt(&mut formatter).is_ok());
-    let written = formatter.into_inner();
+    let written = written(&rt, alloc, &state);
     for piece in PIECES {
         holds(&rt, written.as_str().contains(*piece), piece, 0);
     }

@@ -8,8 +8,9 @@ use line_editor::binding::{Event, EventHandler, NoHandler};
 use line_keys::cmd::Cmd;
 use line_keys::keys::{KeyCode as K, KeyEvent, Modifiers as M};
 use line_keys::refresher::Invoke;
+use std::alloc::{AllocError, Global};
 use std::collections::HashMap;
-use std::test::Fail;
+use std::process::Abort;
 
 /// Each set of modifiers; the same with Ctrl, with Shift and without Shift.
 const SETS: &[(M, M, M, M)] = &[
@@ -176,16 +177,21 @@ const EVENTS: &[(Made, K, With)] = &[
     (Plain('q'), K::Char('q'), Only(M::NONE, M::NONE)),
 ];
 
-/// Whether an event is made of this key, with these modifiers.
-fn is_made(made: &Made, code: K, with: &With, set: &(M, M, M, M)) -> bool {
+/// The modifiers that an event is made with, and what they become.
+fn given_and_left(with: &With, set: &(M, M, M, M)) -> (M, M) {
     let (mods, and_ctrl, and_shift, not_shift) = *set;
-    let (given, left) = match with {
+    match with {
         Each => (mods, mods),
         EachAndCtrl => (mods, and_ctrl),
         EachAndShift => (mods, and_shift),
         EachNotShift => (mods, not_shift),
         Only(given, left) => (*given, *left),
-    };
+    }
+}
+
+/// Whether an event is made of this key, with these modifiers.
+fn is_made(made: &Made, code: K, with: &With, set: &(M, M, M, M)) -> bool {
+    let (given, left) = given_and_left(with, set);
     let event = match made {
         New(c) => KeyEvent::new(*c, given),
         Ctrl(c) => KeyEvent::ctrl(*c),
@@ -323,51 +329,81 @@ const COMBINED: &[Sets] = &[
     ),
 ];
 
+/// Whether two sets are combined so.
+fn is_combined(sets: &Sets) -> bool {
+    let (_, a, b, both, common, either, first, lacks) = *sets;
+    (a | b, a & b, a ^ b, a - b, !a) == (both, common, either, first, lacks)
+}
+
+/// Whether one set changes so where the other is put into it, taken from it and changed round.
+fn is_changed(sets: &Sets) -> bool {
+    let (_, a, b, both, _, _, first, _) = *sets;
+    let mut set = a;
+    set.insert(b);
+    let inserted = set;
+    set.remove(b);
+    let removed = set;
+    set.toggle(both);
+    (inserted, removed, set) == (both, first, both - first)
+}
+
+/// Whether a set has these bits, and these members alone.
+fn has_members(sets: &Sets) -> bool {
+    let (bits, a, b, _, common, _, _, _) = *sets;
+    let has = (a.contains(b), a.intersects(b), a.is_empty());
+    let is_made = M::from_bits(bits) == Some(a) && M::from_bits(bits | 1) == None;
+    has == (common == b, common != M::NONE, a == M::NONE) && a.bits() == bits && is_made
+}
+
 /// Sets have their bits and members, and two are combined so, also where one is put into the other, taken from it and
 /// changed round.
 #[test]
 fn modifiers_are_sets(rt: HostRuntime) {
     for (row, sets) in COMBINED.iter().enumerate() {
-        let (bits, a, b, both, common, either, first, lacks) = *sets;
-        let is_joined = a | b == both && a & b == common && a ^ b == either;
-        let is_parted = a - b == first && !a == lacks;
-        let mut set = a;
-        set.insert(b);
-        let inserted = set;
-        set.remove(b);
-        let removed = set;
-        set.toggle(both);
-        let is_changed = inserted == both && removed == first && set == both - first;
-        let has = a.contains(b) == (common == b) && a.intersects(b) == (common != M::NONE);
-        let is_known = a.is_empty() == (a == M::NONE) && a.bits() == bits;
-        let is_made = M::from_bits(bits) == Some(a) && M::from_bits(bits | 1) == None;
-        let is_so = is_joined && is_parted && is_changed && has && is_known && is_made;
+        let is_so = is_combined(sets) && is_changed(sets) && has_members(sets);
         holds(&rt, is_so, "sets of row", row);
     }
     let retained = !M::from_bits_retain(0xf1) == M::CTRL_ALT_SHIFT && M::from_bits(16) == None;
-    let ends = M::empty() == M::NONE && M::all() == M::CTRL_ALT_SHIFT;
+    let ends = (M::empty(), M::all()) == (M::NONE, M::CTRL_ALT_SHIFT);
     holds(&rt, retained && ends, "sets by their bits", 0);
+}
+
+/// Whether equal events are one key of a map.
+fn are_keys_of_a_map(alloc: Global) -> Result<bool, AllocError> {
+    let mut commands: HashMap<KeyEvent, u8> = HashMap::new(alloc);
+    let _ = commands.insert(KeyEvent::ctrl('A'), 1)?;
+    let _ = commands.insert(KeyEvent::alt('A'), 2)?;
+    let bound = commands.get(&KeyEvent::from('\u{1}')).copied();
+    Ok(bound == Some(1) && commands.get(&KeyEvent::from('A')).is_none())
+}
+
+/// Whether the keys of an event are got by their places.
+fn is_got_by_place(rt: &impl Abort, alloc: Global) -> bool {
+    let key = KeyEvent::ctrl('x');
+    let event = Event::from_key(alloc, key).expect(rt, "no fault");
+    let is_got = event.get(0).copied() == Some(key) && event.get(1).is_none();
+    is_got && Event::Any.get(0).is_none()
+}
+
+/// What `Debug` writes of a key.
+fn is_shown(rt: &impl Abort, alloc: Global) {
+    let text = format!(in alloc; "{:?}", KeyEvent::ctrl('A')).expect(rt, "no fault");
+    let is_so = text.as_str() == "KeyEvent(Char('A'), Modifiers(8))";
+    holds(rt, is_so, text.as_str(), 0);
+}
+
+/// Whether a command becomes its own handler, and a text is what is typed.
+fn is_simple() -> bool {
+    let handler: EventHandler<NoHandler> = EventHandler::from(Cmd::Noop);
+    matches!(handler, EventHandler::Simple(Cmd::Noop)) && (&"ab").input() == "ab"
 }
 
 /// Equal events are one key of a map, what is bound to one is its handler, and the keys of an event are got by their places.
 #[test]
-fn of_maps_and_events(rt: HostRuntime) -> Result<(), Fail> {
-    let is_mapped = {
-        let mut commands: HashMap<KeyEvent, u8> = HashMap::new(rt.alloc());
-        let _ = commands.insert(KeyEvent::ctrl('A'), 1)?;
-        let _ = commands.insert(KeyEvent::alt('A'), 2)?;
-        let bound = commands.get(&KeyEvent::from('\u{1}')).copied();
-        bound == Some(1) && commands.get(&KeyEvent::from('A')).is_none()
-    };
-    let text = format!(in rt.alloc(); "{:?}", KeyEvent::ctrl('A'))?;
-    let is_shown = text.as_str() == "KeyEvent(Char('A'), Modifiers(8))";
-    let key = KeyEvent::ctrl('x');
-    let event = Event::from_key(rt.alloc(), key)?;
-    let is_got = event.get(0).copied() == Some(key) && event.get(1).is_none();
-    let handler: EventHandler<NoHandler> = EventHandler::from(Cmd::Noop);
-    let is_simple = matches!(handler, EventHandler::Simple(Cmd::Noop));
-    let is_so = is_mapped && is_shown && is_got && is_simple;
-    let is_whole = Event::Any.get(0).is_none() && (&"ab").input() == "ab";
-    holds(&rt, is_so && is_whole, text.as_str(), 0);
-    Ok(())
+fn of_maps_and_events(rt: HostRuntime) {
+    let are_keys = are_keys_of_a_map(rt.alloc()).expect(&rt, "no fault");
+    holds(&rt, are_keys, "a map", 0);
+    holds(&rt, is_got_by_place(&rt, rt.alloc()), "an event", 0);
+    holds(&rt, is_simple(), "a handler", 0);
+    is_shown(&rt, rt.alloc());
 }

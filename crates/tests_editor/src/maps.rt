@@ -24,6 +24,26 @@ enum On {
     Keys(&'static str, usize, usize),
 }
 
+/// The key of a letter.
+fn typed(c: char) -> KeyEvent {
+    let mods = if c == 'X' || c == 'x' {
+        Modifiers::CTRL
+    } else {
+        Modifiers::NONE
+    };
+    KeyEvent(KeyCode::Char(c), mods)
+}
+
+/// The key of a number.
+fn numbered(i: usize) -> KeyEvent {
+    let mods = if i % 500 < 250 {
+        Modifiers::NONE
+    } else {
+        Modifiers::CTRL
+    };
+    KeyEvent(KeyCode::F((i % 250) as u8), mods)
+}
+
 fn event(alloc: Global, on: &On) -> Result<Event> {
     let (text, from, len) = match on {
         Each => return Ok(Event::Any),
@@ -32,20 +52,10 @@ fn event(alloc: Global, on: &On) -> Result<Event> {
     };
     let mut keys = Vec::new(alloc);
     for c in text.chars() {
-        let mods = if c == 'X' || c == 'x' {
-            Modifiers::CTRL
-        } else {
-            Modifiers::NONE
-        };
-        keys.push(KeyEvent(KeyCode::Char(c), mods))?;
+        keys.push(typed(c))?;
     }
     for i in from..from.saturating_add(len) {
-        let mods = if i % 500 < 250 {
-            Modifiers::NONE
-        } else {
-            Modifiers::CTRL
-        };
-        keys.push(KeyEvent(KeyCode::F((i % 250) as u8), mods))?;
+        keys.push(numbered(i))?;
     }
     Ok(Event::KeySeq(keys))
 }
@@ -119,56 +129,74 @@ fn is_copied(alloc: Global, on: &On, normal: &On) -> Result<bool> {
     let original = event(alloc, on)?;
     let copy = original.clone(alloc)?;
     let is_same = copy == original;
-    Ok(is_same && copy.normalize() == event(alloc, normal)?)
+    let is_normal = copy.normalize() == event(alloc, normal)?;
+    Ok(is_same && is_normal)
 }
 
-/// Does a step. Where memory runs out, the number of nodes is as it was.
+/// Binds an event to a number, and answers the one that it had. Where memory runs out, the number of nodes is as it was.
+fn binds(
+    rt: &impl Abort,
+    alloc: Global,
+    bindings: &mut Bindings,
+    on: &On,
+    n: u16,
+) -> Result<Option<u16>> {
+    let event = event(alloc, on)?;
+    let before = bindings.nodes();
+    match bindings.insert(event, EventHandler::from(Cmd::SelfInsert(n, 'x'))) {
+        Ok(old) => Ok(number(old.as_ref())),
+        Err(error) => {
+            holds(rt, bindings.nodes() == before, "nodes", before);
+            Err(error)
+        }
+    }
+}
+
+/// The number of an event, and whether it is or begins a bound one.
+fn finds(alloc: Global, bindings: &Bindings, on: &On) -> Result<(Option<u16>, bool)> {
+    let event = event(alloc, on)?;
+    Ok((number(bindings.get(&event)), bindings.begins(&event)))
+}
+
+/// Does a step.
 fn takes(rt: &impl Abort, alloc: Global, bindings: &mut Bindings, step: &Step) -> Result<()> {
     let (does, on, wanted, nodes) = step;
-    let before = bindings.nodes();
-    let (found, as_wanted) = match does {
+    let is_so = match does {
         Starts => {
             *bindings = Bindings::new(alloc);
-            (None, true)
+            wanted.is_none()
         }
-        Binds(n) => {
-            let event = event(alloc, on)?;
-            let handler = EventHandler::from(Cmd::SelfInsert(*n, 'x'));
-            match bindings.insert(event, handler) {
-                Ok(old) => (number(old.as_ref()), true),
-                Err(error) => {
-                    holds(rt, bindings.nodes() == before, "nodes", before);
-                    return Err(error);
-                }
-            }
-        }
-        Finds(begins) => {
-            let event = event(alloc, on)?;
-            let found = number(bindings.get(&event));
-            (found, bindings.begins(&event) == *begins)
-        }
-        Becomes(normal) => (None, is_copied(alloc, on, normal)?),
+        Binds(n) => binds(rt, alloc, bindings, on, *n)? == *wanted,
+        Finds(begins) => finds(alloc, bindings, on)? == (*wanted, *begins),
+        Becomes(normal) => is_copied(alloc, on, normal)? && wanted.is_none(),
     };
     let left = bindings.nodes();
-    let is_so = found == *wanted && as_wanted && left == *nodes;
-    holds(rt, is_so, "nodes", left);
+    holds(rt, is_so && left == *nodes, "nodes", left);
     Ok(())
+}
+
+/// One of 500 keys after these others is bound to a number of its own, or then found, after so many steps.
+fn shares(i: u16, front: &'static str) -> Step {
+    let own = i % 500;
+    let (does, wanted) = if i < 500 {
+        (Binds(own), None)
+    } else {
+        (Finds(true), Some(own))
+    };
+    let nodes = front.len().saturating_add(usize::from(i.min(499)));
+    (
+        does,
+        Keys(front, usize::from(own), 1),
+        wanted,
+        nodes.saturating_add(1),
+    )
 }
 
 /// Each of the 500 keys after these others is bound to a number of its own, and then found.
 fn share_a_node(rt: &impl Abort, alloc: Global, front: &'static str) {
     let mut bindings = Bindings::new(alloc);
     for i in 0..1000u16 {
-        let own = i % 500;
-        let (does, wanted) = if i < 500 {
-            (Binds(own), None)
-        } else {
-            (Finds(true), Some(own))
-        };
-        let nodes = front.len().saturating_add(usize::from(i.min(499)));
-        let on = Keys(front, usize::from(own), 1);
-        let step = (does, on, wanted, nodes.saturating_add(1));
-        takes(rt, alloc, &mut bindings, &step).expect(rt, "no fault");
+        takes(rt, alloc, &mut bindings, &shares(i, front)).expect(rt, "no fault");
     }
 }
 
@@ -195,30 +223,50 @@ const FORTY: &[Binding] = &[
     (40, 2, (0, 0), (0, 40)),
 ];
 
-/// Binds beginnings of forty keys; where memory runs out, the map is as it was. What is bound then, and nothing else, is
-/// found.
+/// What is bound of forty keys is found, and nothing else.
+fn are_found(rt: &impl Abort, alloc: Global, bindings: &mut Bindings, bound: Bound) -> Result<()> {
+    let (first, second) = bound;
+    let longest = first.max(second);
+    for len in 0..41 {
+        let wanted = if len == 0 {
+            None
+        } else if len == first {
+            Some(1)
+        } else if len == second {
+            Some(2)
+        } else {
+            None
+        };
+        let leads = longest > 0 && len <= longest;
+        let step = (Finds(leads), Keys("", 0, len), wanted, longest);
+        takes(rt, alloc, bindings, &step)?;
+    }
+    Ok(())
+}
+
+/// Binds a beginning of forty keys; where memory runs out, the map is as it was.
+fn is_bound(
+    rt: &impl Abort,
+    alloc: Global,
+    bindings: &mut Bindings,
+    binding: &Binding,
+) -> Result<()> {
+    let (len, n, before, after) = binding;
+    if *before == (0, 0) {
+        *bindings = Bindings::new(alloc);
+    }
+    let step = (Binds(*n), Keys("", 0, *len), None, *len);
+    let outcome = takes(rt, alloc, bindings, &step);
+    let bound = if outcome.is_ok() { *after } else { *before };
+    are_found(rt, alloc, bindings, bound)?;
+    outcome
+}
+
+/// Binds beginnings of forty keys one after another.
 fn forty(rt: &impl Abort, alloc: Global) -> Result<()> {
     let mut bindings = Bindings::new(alloc);
-    for (len, n, before, after) in FORTY {
-        if *before == (0, 0) {
-            bindings = Bindings::new(alloc);
-        }
-        let step = (Binds(*n), Keys("", 0, *len), None, *len);
-        let outcome = takes(rt, alloc, &mut bindings, &step);
-        let (first, second) = if outcome.is_ok() { *after } else { *before };
-        let longest = first.max(second);
-        for len in 0..41 {
-            let wanted = match len {
-                0 => None,
-                len if len == first => Some(1),
-                len if len == second => Some(2),
-                _ => None,
-            };
-            let leads = longest > 0 && len <= longest;
-            let step = (Finds(leads), Keys("", 0, len), wanted, longest);
-            takes(rt, alloc, &mut bindings, &step)?;
-        }
-        outcome?;
+    for binding in FORTY {
+        is_bound(rt, alloc, &mut bindings, binding)?;
     }
     Ok(())
 }

@@ -62,21 +62,13 @@ const CONTROL_X: KeyEvent = KeyEvent(K::Char('X'), M::CTRL);
 
 type Editor<'out, 'prompt> = State<'out, 'prompt, Recorder, Advisor, &'static str, MemHistory>;
 
-/// The command of a key where it is typed after the keys of a count.
-fn commanded(
-    rt: &impl Abort,
-    alloc: Global,
-    state: &mut Editor<'_, '_>,
-    digits: &str,
-    way: &Way,
-    key: KeyEvent,
-) -> Cmd {
+/// A reader of the keys of a count, and a key after them.
+fn typist(rt: &impl Abort, alloc: Global, digits: &str, way: &Way, key: KeyEvent) -> Typist {
     let mut typist = Typist::new(alloc);
     let mut mods = M::ALT;
     for digit in digits.chars() {
-        typist
-            .press(&[KeyEvent(K::Char(digit), mods)])
-            .expect(rt, "no fault");
+        let digit = KeyEvent(K::Char(digit), mods);
+        typist.press(&[digit]).expect(rt, "no fault");
         mods = M::NONE;
     }
     let outcome = match way {
@@ -85,15 +77,46 @@ fn commanded(
         _ => typist.press(&[key]),
     };
     outcome.expect(rt, "no fault");
+    typist
+}
+
+/// The command of what is typed.
+fn commanded(
+    rt: &impl Abort,
+    alloc: Global,
+    state: &mut Editor<'_, '_>,
+    typist: &mut Typist,
+) -> Cmd {
     let config = Config::builder(GraphemeClusterMode::Unicode).build();
     let bindings = Bindings::new(alloc);
     let mut input = InputState::new(&config, &bindings);
     state
-        .next_cmd(&mut input, &mut typist, true)
+        .next_cmd(&mut input, typist, true)
         .expect(rt, "no fault")
 }
 
-/// What comes of a key on a line: its meaning for a count that is handed over, or the command where it is typed.
+/// What a key means: for a count that is handed over, or else the command where it is typed.
+fn meant(
+    rt: &impl Abort,
+    alloc: Global,
+    state: &mut Editor<'_, '_>,
+    way: &Way,
+    key: KeyEvent,
+    count: &Counted,
+) -> Meaning {
+    match (count.0, way) {
+        (None, _) => {
+            let mut typist = typist(rt, alloc, count.1, way, key);
+            Meaning::Command(commanded(rt, alloc, state, &mut typist))
+        }
+        (Some(handed), Way::Second) => Meaning::Command(second_key(key, handed)),
+        (handed, _) => {
+            entry_of_key(EditMode::Emacs, InputMode::Insert, key, handed, state).meaning
+        }
+    }
+}
+
+/// What comes of a key on a line with a count.
 fn found(
     rt: &impl Abort,
     alloc: Global,
@@ -101,7 +124,7 @@ fn found(
     way: &Way,
     key: KeyEvent,
     count: &Counted,
-) -> String {
+) -> Meaning {
     let (text, cursor, hint) = *line;
     let history = MemHistory::new(alloc);
     let mut screen = Recorder::new(alloc, 80, false, 0);
@@ -119,37 +142,39 @@ fn found(
         cursor,
     ).expect(rt, "no fault");
     state.hint().expect(rt, "no fault");
-    let meaning = match (count.0, way) {
-        (None, _) => Meaning::Command(commanded(rt, alloc, &mut state, count.1, way, key)),
-        (Some(handed), Way::Second) => Meaning::Command(second_key(key, handed)),
-        (handed, _) => {
-            entry_of_key(EditMode::Emacs, InputMode::Insert, key, handed, &state).meaning
-        }
-    };
-    let outcome = match meaning {
+    meant(rt, alloc, &mut state, way, key, count)
+}
+
+/// Tries the key of a row on a line with a count.
+fn tries(rt: &impl Abort, alloc: Global, line: &Line, row: &Row, count: &Counted) {
+    let (way, code, mods, forth, back) = row;
+    let wanted = if count.2 { forth } else { back };
+    let wanted = wanted.replace(alloc, '#', count.3).expect(rt, "no fault");
+    let outcome = match found(rt, alloc, line, way, KeyEvent(*code, *mods), count) {
         Meaning::Command(command) => format!(in alloc; "{command:?}"),
         other => format!(in alloc; "{other:?}"),
     };
-    outcome.expect(rt, "no fault")
+    let found = outcome.expect(rt, "no fault");
+    let is_so = found.as_str() == wanted.as_str();
+    holds(rt, is_so, found.as_str(), count.1.len());
 }
 
-/// Tries the key of a row on a line with each count that it does not go on with.
-fn tries(rt: &impl Abort, alloc: Global, line: &Line, row: &Row) {
-    let (way, code, mods, forth, back) = row;
-    let key = KeyEvent(*code, *mods);
+/// Whether the key of a row is tried with a count: one that it goes on with is none.
+fn is_tried(row: &Row, count: &Counted) -> bool {
+    match (&row.0, count.0) {
+        (Way::Search, Some(_)) | (Way::Listed, None) => false,
+        (_, Some(_)) => true,
+        (_, None) => {
+            count.1.is_empty() || !continues_count(EditMode::Emacs, KeyEvent(row.1, row.2))
+        }
+    }
+}
+
+/// Tries the key of a row on a line with each count.
+fn tries_each(rt: &impl Abort, alloc: Global, line: &Line, row: &Row) {
     for count in COUNTS {
-        let (handed, digits, positive, number) = *count;
-        let is_tried = match (way, handed) {
-            (Way::Search, Some(_)) | (Way::Listed, None) => false,
-            (_, Some(_)) => true,
-            (_, None) => digits.is_empty() || !continues_count(EditMode::Emacs, key),
-        };
-        if is_tried {
-            let wanted = if positive { forth } else { back };
-            let wanted = wanted.replace(alloc, '#', number).expect(rt, "no fault");
-            let found = found(rt, alloc, line, way, key, count);
-            let is_so = found.as_str() == wanted.as_str();
-            holds(rt, is_so, found.as_str(), digits.len());
+        if is_tried(row, count) {
+            tries(rt, alloc, line, row, count);
         }
     }
 }
@@ -158,7 +183,7 @@ fn tries(rt: &impl Abort, alloc: Global, line: &Line, row: &Row) {
 fn of_emacs(rt: HostRuntime) {
     for (line, rows) in TABLES {
         for row in *rows {
-            tries(&rt, rt.alloc(), line, row);
+            tries_each(&rt, rt.alloc(), line, row);
         }
     }
 }
@@ -181,20 +206,24 @@ const TYPED: &[Typed] = &[
     ("-099912", false, 9991, "(arg: -9991) "),
 ];
 
+/// Types a count, which is this number then.
+fn is_counted(rt: &impl Abort, alloc: Global, typed: &Typed) {
+    let (text, positive, n, prompt) = *typed;
+    let mut keys = text.chars();
+    let first = keys.next().expect(rt, "a key is typed");
+    let mut count = TypedCount::new(KeyEvent(K::Char(first), M::ALT));
+    for key in keys {
+        count.push(KeyEvent(K::Char(key), M::NONE));
+    }
+    let shown = count.prompt(alloc).expect(rt, "no fault");
+    let is_so = count.count() == Count { n, positive } && shown.as_str() == prompt;
+    holds(rt, is_so, shown.as_str(), usize::from(n));
+}
+
 #[test]
 fn of_counts(rt: HostRuntime) {
     for typed in TYPED {
-        let (text, positive, n, prompt) = *typed;
-        let mut keys = text.chars();
-        let first = keys.next().expect(&rt, "a key is typed");
-        let mut count = TypedCount::new(KeyEvent(K::Char(first), M::ALT));
-        for key in keys {
-            count.push(KeyEvent(K::Char(key), M::NONE));
-        }
-        let found = count.count();
-        let shown = count.prompt(rt.alloc()).expect(&rt, "no fault");
-        let is_so = found == Count { n, positive } && shown.as_str() == prompt;
-        holds(&rt, is_so, shown.as_str(), usize::from(n));
+        is_counted(&rt, rt.alloc(), typed);
     }
 }
 
@@ -216,23 +245,36 @@ const COUNT_KEYS: &[CountKey] = &[
     (K::F(5), M::ALT, false, false, false, false),
 ];
 
-/// Which keys are those of a count, none of which begins in Vi's other modes; and each kind of search with its character.
+/// Whether the key is one of a count where it says so. None begins in Vi's other modes.
+fn is_of_count(count_key: &CountKey) -> bool {
+    let (code, mods, begins, goes_on, vi_begins, vi_goes_on) = *count_key;
+    let key = KeyEvent(code, mods);
+    let emacs = begins_count(EditMode::Emacs, InputMode::Insert, key);
+    let vi = begins_count(EditMode::Vi, InputMode::Command, key);
+    let other = begins_count(EditMode::Vi, InputMode::Insert, key)
+        || begins_count(EditMode::Vi, InputMode::Replace, key);
+    let goes = (
+        continues_count(EditMode::Emacs, key),
+        continues_count(EditMode::Vi, key),
+    );
+    (emacs, vi, other) == (begins, vi_begins, false) && goes == (goes_on, vi_goes_on)
+}
+
+/// Each kind of search with its character.
+const SEARCHES: &[(SearchKind, CharSearch)] = &[
+    (SearchKind::Forward, CharSearch::Forward('é')),
+    (SearchKind::ForwardBefore, CharSearch::ForwardBefore('é')),
+    (SearchKind::Backward, CharSearch::Backward('é')),
+    (SearchKind::BackwardAfter, CharSearch::BackwardAfter('é')),
+];
+
+/// Which keys are those of a count; and each kind of search with its character.
 #[test]
 fn of_count_keys_and_searches(rt: HostRuntime) {
     for (row, count_key) in COUNT_KEYS.iter().enumerate() {
-        let (code, mods, begins, goes_on, vi_begins, vi_goes_on) = *count_key;
-        let key = KeyEvent(code, mods);
-        let is_so = begins_count(EditMode::Emacs, InputMode::Insert, key) == begins
-            && begins_count(EditMode::Vi, InputMode::Command, key) == vi_begins
-            && !begins_count(EditMode::Vi, InputMode::Insert, key)
-            && !begins_count(EditMode::Vi, InputMode::Replace, key)
-            && continues_count(EditMode::Emacs, key) == goes_on
-            && continues_count(EditMode::Vi, key) == vi_goes_on;
-        holds(&rt, is_so, "key of row", row);
+        holds(&rt, is_of_count(count_key), "key of row", row);
     }
-    let forward = SearchKind::Forward.search('é') == CharSearch::Forward('é')
-        && SearchKind::ForwardBefore.search('é') == CharSearch::ForwardBefore('é');
-    let backward = SearchKind::Backward.search('é') == CharSearch::Backward('é')
-        && SearchKind::BackwardAfter.search('é') == CharSearch::BackwardAfter('é');
-    holds(&rt, forward && backward, "searches", 0);
+    for (row, (kind, search)) in SEARCHES.iter().enumerate() {
+        holds(&rt, kind.search('é') == *search, "search of row", row);
+    }
 }

@@ -1,23 +1,19 @@
 //! What is large fails for no reason of its own: 1,000 groups of changes, 1,000 lines of a history.
 
-use super::does;
+use super::{at, does, edits, prompts, shelved};
 use crate::holds;
 use line_buffer::{GraphemeClusterMode, KillRing};
 use line_config::Config;
 use line_editor::Bindings;
-use line_editor::edit::State;
 use line_editor::input_state::InputState;
-use line_keys::refresher::Refresher;
-use line_parts::{Context, History};
 use std::alloc::Global;
 use std::process::Abort;
 use tests_parties::advisor::Advisor;
-use tests_parties::shelf::Shelf;
 use tests_steps::calls::Editor;
 use tests_steps::recorder::Recorder;
 
-/// How many lines the history holds: each is `line` and a number of four digits, the first 1000. What is done once, what
-/// so many times, and what once after it; and the length of the line, the cursor and the place that are left.
+/// How many lines the history holds. What is done once, what so many times, and what once after it; and the length of the
+/// line, the cursor and the place that are left.
 type Case = (
     u64,
     &'static str,
@@ -27,53 +23,53 @@ type Case = (
     (usize, usize, usize),
 );
 
-/// A history of so many lines.
-fn shelved(rt: &impl Abort, alloc: Global, lines: u64) -> Shelf {
-    let mut history = Shelf::new(alloc, 0);
-    history.set_max_len(5000).expect(rt, "no fault");
-    for line in 0..lines {
-        let number = line.saturating_add(1000);
-        let text = format!(in alloc; "line{number}").expect(rt, "no fault");
-        let _ = history.add_owned(text).expect(rt, "no fault");
-    }
-    history
-}
-
 /// Does the steps of a case, none of which fails: those of the first text once, the next so many times, the last once.
 /// Then the line has the length, the cursor and the place that are wanted.
 fn lasts(rt: &impl Abort, alloc: Global, case: &Case) {
-    let (lines, before, times, steps, behind, left) = case;
-    let prompt = (
-        String::from_str(alloc, "> ").expect(rt, "no fault"),
-        String::from_str(alloc, "> ").expect(rt, "no fault"),
-    );
-    let history = shelved(rt, alloc, *lines);
+    let history = shelved(rt, alloc, case.0);
+    let prompts = prompts(alloc).expect(rt, "no fault");
     let mut screen = Recorder::new(alloc, 80, false, 0);
     let mut helper = Advisor::new(Some("!!"), (true, true, None), None);
-    let context = Context::new(&history);
-    let mut state: Editor<'_, '_> = State::new(
+    let mut state = edits(
+        rt,
         alloc,
         &mut screen,
-        &prompt,
-        Some(&mut helper),
-        context,
-    ).expect(rt, "no fault");
+        &prompts,
+        &mut helper,
+        &history,
+        ("", 0),
+    )
+    .expect(rt, "no fault");
+    repeats(rt, alloc, &mut state, case);
+    let (before, behind) = at(rt, &state);
+    let len = before.len().saturating_add(behind.len());
+    let is_so = (len, before.len(), state.place()) == case.5;
+    holds(rt, is_so, case.3, len);
+}
+
+/// Does the steps of a case.
+fn repeats(rt: &impl Abort, alloc: Global, state: &mut Editor<'_, '_>, case: &Case) {
     let config = Config::new(GraphemeClusterMode::Unicode);
     let bindings = Bindings::new(alloc);
     let input = InputState::new(&config, &bindings);
     let mut kills = KillRing::new(alloc, 60);
-    for round in 0..times.saturating_add(2) {
-        let text = match round {
-            0 => *before,
-            round if round <= *times => *steps,
-            _ => *behind,
-        };
-        if !text.is_empty() {
-            does(rt, alloc, &mut state, &input, &mut kills, text).expect(rt, "no fault");
+    for round in 0..case.2.saturating_add(2) {
+        let steps = in_round(case, round);
+        if !steps.is_empty() {
+            does(rt, alloc, state, &input, &mut kills, steps).expect(rt, "no fault");
         }
     }
-    let found = (state.line().len(), state.pos(), state.place());
-    holds(rt, found == *left, steps, found.0);
+}
+
+/// The steps of a round, of which the first is 0.
+fn in_round(case: &Case, round: u64) -> &'static str {
+    if round == 0 {
+        case.1
+    } else if round <= case.2 {
+        case.3
+    } else {
+        case.4
+    }
 }
 
 /// One step after the other and one kill; and walks through a history of 1,100 lines of eight bytes.

@@ -1,23 +1,18 @@
 //! What a command leaves where a growth is refused. Run with any one allocation refused, each test passes: it looks at
 //! what is left, or the command was not reached.
 
-use super::does;
+use super::{at, does, edits, prompts};
 use crate::holds;
 use line_buffer::{GraphemeClusterMode, KillRing};
 use line_config::{Config, ReadlineError, Result};
 use line_editor::Bindings;
-use line_editor::command::{Status, execute};
-use line_editor::edit::State;
 use line_editor::input_state::InputState;
-use line_keys::cmd::Cmd;
-use line_keys::refresher::Refresher;
-use line_parts::{Context, History};
+use line_parts::History;
 use std::alloc::Global;
 use std::process::Abort;
-use std::test::Fail;
 use tests_parties::advisor::Advisor;
 use tests_parties::shelf::Shelf;
-use tests_steps::calls::{Editor, starts};
+use tests_steps::calls::{Editor, executed, starts};
 use tests_steps::recorder::Recorder;
 
 /// What the editor stands on: nothing, a history of the line `one`, a hint, a helper that takes no line, or a line to begin
@@ -37,36 +32,23 @@ type Case = (With, &'static str, &'static str, &'static str);
 
 /// Does the steps, which leave the history as it was.
 fn tries(rt: &impl Abort, alloc: Global, case: &Case) -> Result<()> {
-    let (mut hint, mut verdict, mut begins) = (None, (true, true, None), ("", 0));
     let mut history = Shelf::new(alloc, 0);
-    match &case.0 {
-        Nothing => {}
-        History => {
-            let _ = history.add("one")?;
-        }
-        Hint => hint = Some("日"),
-        Refusal => verdict = (true, false, Some("no")),
-        Line(text, cursor) => begins = (*text, *cursor),
+    if let History = case.0 {
+        let _ = history.add("one")?;
     }
     let lines = history.len();
-    let prompt = (
-        String::from_str(alloc, "> ")?,
-        String::from_str(alloc, "> ")?,
-    );
+    let prompts = prompts(alloc)?;
     let mut screen = Recorder::new(alloc, 80, false, 0);
-    let mut helper = Advisor::new(hint, verdict, None);
-    let asked = Some(&mut helper);
-    let context = Context::new(&history);
-    let (text, cursor) = begins;
-    assert!(rt; text.is_char_boundary(cursor));
-    let outcome = match State::with_line(
+    let mut helper = asked(&case.0);
+    let line = begun(&case.0);
+    let outcome = match edits(
+        rt,
         alloc,
         &mut screen,
-        &prompt,
-        asked,
-        context,
-        text,
-        cursor,
+        &prompts,
+        &mut helper,
+        &history,
+        line,
     ) {
         Ok(mut state) => leaves(rt, alloc, case, &mut state),
         Err(error) => Err(error),
@@ -75,47 +57,68 @@ fn tries(rt: &impl Abort, alloc: Global, case: &Case) -> Result<()> {
     outcome
 }
 
+/// The line that a case begins with, and its cursor.
+fn begun(with: &With) -> (&'static str, usize) {
+    match with {
+        Line(text, cursor) => (*text, *cursor),
+        _ => ("", 0),
+    }
+}
+
+/// The helper that a case asks.
+fn asked(with: &With) -> Advisor {
+    let hint = if let Hint = with { Some("日") } else { None };
+    let verdict = if let Refusal = with {
+        (true, false, Some("no"))
+    } else {
+        (true, true, None)
+    };
+    Advisor::new(hint, verdict, None)
+}
+
 /// Does the steps; where memory runs out in one of them, looks at what is left.
 fn leaves(rt: &impl Abort, alloc: Global, case: &Case, state: &mut Editor<'_, '_>) -> Result<()> {
-    let (_, start, steps, after) = case;
     let config = Config::new(GraphemeClusterMode::Unicode);
     let bindings = Bindings::new(alloc);
     let input = InputState::new(&config, &bindings);
-    let (before, behind) = start.split_once('|').expect(rt, "a cursor");
-    starts(state, &input, before, behind)?;
     let mut kills = KillRing::new(alloc, 60);
-    if let Err(error) = does(rt, alloc, state, &input, &mut kills, steps) {
-        holds(rt, matches!(error, ReadlineError::Memory), start, 0);
-        return settled(rt, state, &input, &mut kills);
+    let (before, behind) = case.1.split_once('|').expect(rt, "a cursor");
+    starts(state, &input, before, behind)?;
+    match does(rt, alloc, state, &input, &mut kills, case.2) {
+        Ok(()) => {
+            holds(rt, Some(at(rt, state)) == case.3.split_once('|'), case.3, 0);
+            Ok(())
+        }
+        Err(error) => {
+            holds(rt, matches!(error, ReadlineError::Memory), case.1, 0);
+            settled(rt, alloc, state, &input, &mut kills)
+        }
     }
-    holds(rt, Some(at(rt, state)) == after.split_once('|'), after, 0);
-    Ok(())
-}
-
-/// The line before and after its cursor, which is on a boundary.
-fn at<'l>(rt: &impl Abort, state: &'l Editor<'_, '_>) -> (&'l str, &'l str) {
-    let (line, pos) = (state.line(), state.pos());
-    assert!(rt; line.is_char_boundary(pos), "{pos} in {line:?}");
-    (&line[..pos], &line[pos..])
 }
 
 /// The line is text with its cursor on a boundary, and so it is when all changes are taken back, be it all that were
 /// made, or none where they were dropped.
 fn settled(
     rt: &impl Abort,
+    alloc: Global,
     state: &mut Editor<'_, '_>,
     input: &InputState<'_>,
     kills: &mut KillRing,
 ) -> Result<()> {
+    let len = length(rt, state);
     let config = Config::new(GraphemeClusterMode::Unicode);
-    let _ = at(rt, state);
-    let len = state.line().len();
-    let status = execute(Cmd::Undo(65535), state, input, kills, &config)?;
-    let _ = at(rt, state);
-    let left = state.line().len();
-    let is_so = status == Status::Proceed && (left == 0 || left == len);
+    let outcome = executed(alloc, state, input, kills, &config, "Undo(65535)");
+    let ended = outcome.expect(rt, "a command")?;
+    let left = length(rt, state);
+    let is_so = ended == "proceeds" && (left == 0 || left == len);
     holds(rt, is_so, "what was taken back", left);
     Ok(())
+}
+
+/// The length of the line, whose cursor is on a boundary.
+fn length(rt: &impl Abort, state: &Editor<'_, '_>) -> usize {
+    let (before, behind) = at(rt, state);
+    before.len().saturating_add(behind.len())
 }
 
 /// Edits, commands of other kinds, moves, the calls of the state that no command makes as they stand, and lines to begin
@@ -255,12 +258,10 @@ const CASES: &[Case] = &[
 
 /// A refusal in what comes before the steps is no failure of the test.
 #[test]
-fn of_steps(rt: HostRuntime) -> std::result::Result<(), Fail> {
+fn of_steps(rt: HostRuntime) {
     for case in CASES {
-        match tries(&rt, rt.alloc(), case) {
-            Ok(()) | Err(ReadlineError::Memory) => {}
-            Err(error) => panic!(rt; "{error}"),
-        }
+        let outcome = tries(&rt, rt.alloc(), case);
+        let is_so = matches!(outcome, Ok(()) | Err(ReadlineError::Memory));
+        holds(&rt, is_so, case.2, 0);
     }
-    Ok(())
 }

@@ -53,28 +53,58 @@ fn drawn(rt: &impl Abort, alloc: Global, seed: u32) -> Event {
     Event::KeySeq(keys)
 }
 
-/// Both answer the same of an event. One time in three they give it a number, and answer the one that it had. Events
-/// and numbers come of the numbers of a linear congruence, whose upper bits look mixed.
+/// Gives an event a number in both, and answers the one that the map had.
+fn binds(
+    rt: &impl Abort,
+    alloc: Global,
+    bindings: &mut Bindings,
+    pairs: &mut Pairs,
+    event: Event,
+    own: u16,
+) -> Option<u16> {
+    let copy = event.clone(alloc).expect(rt, "no fault");
+    pairs.push((copy, own)).expect(rt, "no fault");
+    let handler = EventHandler::from(Cmd::SelfInsert(own, 'x'));
+    let old = bindings.insert(event, handler).expect(rt, "no fault");
+    number(old.as_ref())
+}
+
+/// Both answer the same of an event. One time in three they give it a number, and answer the one that it had.
+fn answer(
+    rt: &impl Abort,
+    alloc: Global,
+    bindings: &mut Bindings,
+    pairs: &mut Pairs,
+    event: Event,
+    own: u16,
+) {
+    let found = number(bindings.get(&event));
+    let is_same = looked_up(pairs, &event) == (found, bindings.begins(&event));
+    holds(rt, is_same, "a look-up", pairs.len());
+    if own % 3 == 0 {
+        let old = binds(rt, alloc, bindings, pairs, event, own);
+        holds(rt, old == found, "a number", pairs.len());
+    }
+}
+
+/// Events and numbers come of the numbers of a linear congruence, whose upper bits look mixed.
 #[test]
 fn a_list_of_pairs_answers_the_same(rt: HostRuntime) {
     let alloc = rt.alloc();
     let mut bindings = Bindings::new(alloc);
     let mut pairs: Pairs = Vec::new(alloc);
     let mut last = 7u32;
-    for round in 0..2001 {
+    for _ in 0..2001 {
         let next = last.wrapping_mul(1_664_525).wrapping_add(1_013_904_223);
         let event = drawn(&rt, alloc, next);
-        let own = (last >> 16) as u16;
+        answer(
+            &rt,
+            alloc,
+            &mut bindings,
+            &mut pairs,
+            event,
+            (last >> 16) as u16,
+        );
         last = next;
-        let found = number(bindings.get(&event));
-        let is_same = looked_up(&pairs, &event) == (found, bindings.begins(&event));
-        holds(&rt, is_same, "a look-up", round);
-        if own % 3 == 0 {
-            let copy = event.clone(alloc).expect(&rt, "no fault");
-            pairs.push((copy, own)).expect(&rt, "no fault");
-            let handler = EventHandler::from(Cmd::SelfInsert(own, 'x'));
-            let old = bindings.insert(event, handler).expect(&rt, "no fault");
-            holds(&rt, number(old.as_ref()) == found, "a number", round);
-        }
     }
 }
