@@ -9,8 +9,8 @@ use std::alloc::Global;
 use std::fs;
 use std::rt::Files;
 
-/// Adds what is answered to a line, or to the lines of the file that it loads, a line for each; nothing where all of them are
-/// blank. A name that a line gives a value has it from then on.
+/// Adds what is answered to a line, or to the lines of the file that it loads, a line for each;
+/// nothing where all of them are blank. A name that a line gives a value has it from then on.
 ///
 /// # Errors
 /// `Memory`.
@@ -27,7 +27,8 @@ pub(crate) fn answer_to<R: Files + AllocGlobal>(
     }
 }
 
-/// Adds what is answered to the lines of a file, by its name as it was typed, or that it cannot be read.
+/// Adds what is answered to the lines of a file, by its name as it was typed, or that it cannot be
+/// read.
 fn answer_to_file<R: Files + AllocGlobal>(
     rt: &R,
     name: &str,
@@ -45,8 +46,8 @@ fn answer_to_file<R: Files + AllocGlobal>(
     Ok(())
 }
 
-/// Adds what is answered to a line that loads no file: the value of its expression, what is wrong with it, or what a word after
-/// a colon asks for.
+/// Adds what is answered to a line that loads no file: the value of its expression, what is wrong
+/// with it, or what a word after a colon asks for.
 fn answer_to_line(
     alloc: Global,
     line: &str,

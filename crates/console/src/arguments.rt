@@ -40,7 +40,8 @@ enum Next {
 }
 
 impl Arguments {
-    /// Returns what the arguments say, of which the first is the program's name; None where they say nothing that is known.
+    /// Returns what the arguments say, of which the first is the program's name; None where they
+    /// say nothing that is known.
     pub(crate) fn of(mut words: Args) -> Option<Arguments> {
         words.next();
         let mut arguments = Arguments {

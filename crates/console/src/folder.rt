@@ -16,8 +16,8 @@ pub(crate) struct Folder {
 }
 
 impl Folder {
-    /// Returns the folder with the names that are in it now. Those that are not UTF-8 are left out, and so are all where it cannot
-    /// be read.
+    /// Returns the folder with the names that are in it now. Those that are not UTF-8 are left out,
+    /// and so are all where it cannot be read.
     ///
     /// # Errors
     /// `Memory`.

@@ -1,4 +1,5 @@
-//! Hints from the history, shown dim; brackets that are matched, and lit; words and names of files that are completed.
+//! Hints from the history, shown dim; brackets that are matched, and lit; words and names of files
+//! that are completed.
 
 use crate::arithmetic::Names;
 use crate::folder::Folder;
@@ -17,7 +18,8 @@ pub(crate) type ConsoleHelper = Parts<
     MatchingBracketValidator,
 >;
 
-/// Returns the helper of the console, which completes the names in a folder after the command that loads a file.
+/// Returns the helper of the console, which completes the names in a folder after the command that
+/// loads a file.
 ///
 /// # Errors
 /// `Memory`.

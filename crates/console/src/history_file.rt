@@ -14,7 +14,8 @@ const LINES_KEPT: usize = 1000;
 /// The first line of the file.
 const HEADER: &str = "#V3\n";
 
-/// Returns the settings of the console, with the keys of Vi or of Emacs, and with completions that are listed or gone through.
+/// Returns the settings of the console, with the keys of Vi or of Emacs, and with completions that
+/// are listed or gone through.
 pub(crate) fn settings(vi: bool, list: bool) -> Result<Config> {
     let edit_mode = if vi { EditMode::Vi } else { EditMode::Emacs };
     let completion = if list {
@@ -32,12 +33,12 @@ pub(crate) fn settings(vi: bool, list: bool) -> Result<Config> {
     Ok(builder.build())
 }
 
-/// Loads the history of a file, or begins it with its header. Returns the file, to which new lines are appended; no other line of it
-/// is ever written.
+/// Loads the history of a file, or begins it with its header. Returns the file, to which new lines
+/// are appended; no other line of it is ever written.
 ///
 /// # Errors
-/// `Io`, where the file cannot be read or written, or where it has another header, with the kind `InvalidData`; and `Memory`. The
-/// file is then as it was.
+/// `Io`, where the file cannot be read or written, or where it has another header, with the kind
+/// `InvalidData`; and `Memory`. The file is then as it was.
 pub(crate) fn open<R: Files + AllocGlobal>(
     rt: &R,
     path: &str,

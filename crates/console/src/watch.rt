@@ -17,7 +17,8 @@ const PAUSES_BETWEEN: u32 = 10;
 /// How many pauses are waited for an answer before the size is asked for again.
 const PAUSES_UNANSWERED: u32 = 50;
 
-/// After how many pauses the input counts as ended: eleven days of a terminal, and seconds of an input that is at its end.
+/// After how many pauses the input counts as ended: eleven days of a terminal, and seconds of an
+/// input that is at its end.
 const PAUSES_AT_MOST: u32 = 10_000_000;
 
 /// How often is read at the end for an answer that has not arrived yet.
@@ -33,7 +34,8 @@ pub(crate) type LineEditor<O> = Editor<O, ConsoleHelper, FileHistory>;
 #[derive(Drop)]
 pub(crate) struct Watch {
     size: Size,
-    /// Whether it takes rows for columns in its answers, as tmux 3.3 does; known from its first answer on in which they differ.
+    /// Whether it takes rows for columns in its answers, as tmux 3.3 does; known from its first
+    /// answer on in which they differ.
     exchanges: Option<bool>,
     /// Whether an answer has not arrived yet.
     asked: bool,
@@ -62,7 +64,8 @@ impl Watch {
         Ok(())
     }
 
-    /// Takes a pause: asks for the size at the first one, and then at every so many, unless an answer is awaited.
+    /// Takes a pause: asks for the size at the first one, and then at every so many, unless an
+    /// answer is awaited.
     pub(crate) fn pause<W: Write>(&mut self, out: &mut W) -> Result<()> {
         let pauses = self.pauses;
         self.pauses = pauses.saturating_add(1);
@@ -80,7 +83,8 @@ impl Watch {
         self.pauses >= PAUSES_AT_MOST
     }
 
-    /// Gives the editor the size that the terminal reported after what was read, if it did and it is another one.
+    /// Gives the editor the size that the terminal reported after what was read, if it did and it
+    /// is another one.
     pub(crate) fn follow<O: Write + Drop>(&mut self, editor: &mut LineEditor<O>) -> Result<()> {
         let Some(answer) = editor.take_size() else {
             self.pauses = 0;
@@ -109,7 +113,8 @@ impl Watch {
         if exchanges { other } else { answer }
     }
 
-    /// Waits a moment for an answer that has not arrived yet, so that it is not left to whoever reads next.
+    /// Waits a moment for an answer that has not arrived yet, so that it is not left to whoever
+    /// reads next.
     pub(crate) fn settle<R: Read, O: Write + Drop>(
         &mut self,
         input: &mut R,

@@ -1,5 +1,5 @@
-//! Commands and calls of the edit state, executed one after another: where an allocation is refused, on long lines and
-//! histories, and on the last row; and what `Debug` writes.
+//! Commands and calls of the edit state, executed one after another: where an allocation is
+//! refused, on long lines and histories, and on the last row; and what `Debug` writes.
 
 use crate::holds;
 use line_buffer::{GraphemeClusterMode, KillRing, Unit};
@@ -90,8 +90,8 @@ fn shelved(rt: &impl Abort, alloc: Global, lines: u64) -> Shelf {
     history
 }
 
-/// The columns, what is typed after a prompt that ends on the last row there is, the calls of the renderer, and the column
-/// that it leads to.
+/// The columns, what is typed after a prompt that ends on the last row there is, the calls of the
+/// renderer, and the column that it leads to.
 type Last = (Unit, &'static str, &'static str, Unit);
 
 const ON_THE_LAST_ROW: &[Last] = &[(1, "x", "d", 0), (2, "xyz", "wdw", 1), (3, "xyz", "wwd", 0)];

@@ -1,4 +1,5 @@
-//! Examples of definitions: what they say of fixed values, worked out by hand. No call is made here.
+//! Examples of definitions: what they say of fixed values, worked out by hand. No call is made
+//! here.
 ghost use Rattle.std.specs.Prelude.{◌≡◌, ℕ, [], ◌∷◌, None, Some, true, false};
 ghost use Rattle.line_buffer.specs.declared.movement.Movement.TheVariants.{BackwardChar, BeginningOfLine, EndOfLine, ForwardChar, ForwardWord, LineDown, WholeLine};
 ghost use Rattle.line_buffer.specs.declared.movement.At.TheVariants.{AfterEnd};
@@ -65,7 +66,8 @@ pub fn what_commands_become()
     ensures keeps { redone true None None (kill (BackwardChar 7)) ≡ kill (BackwardChar 7) }
     ensures moves { bound_anew (Some 1) None (move (BackwardChar 65535)) ≡ move (BackwardChar 1) }
     ensures uncounted { redone true (Some 3) None (kill WholeLine) ≡ kill WholeLine }
-    // An insertion, a yank and a replaced character done again take the new count; without one they keep their own.
+    // An insertion, a yank and a replaced character done again take the new count; without one they
+    // keep their own.
     ensures inserts { redone true (Some 2) None (insert 5 (107 ∷ [])) ≡ insert 2 (107 ∷ []) }
     ensures yanks { redone true (Some 2) None (yank 5 Before) ≡ yank 2 Before }
     ensures replaces { redone true (Some 2) None (replace_char 5 120) ≡ replace_char 2 120 }
@@ -76,8 +78,8 @@ pub fn what_commands_become()
     ensures alone { redone true (Some 2) None (self_insert 1 98) ≡ self_insert 2 98 }
     ensures bound { redone false (Some 2) (Some (97 ∷ 98 ∷ [])) (self_insert 1 98)
         ≡ self_insert 2 98 }
-    // A replacement done again takes the last text; where it was typed over the line, over as many clusters as that has
-    // bytes.
+    // A replacement done again takes the last text; where it was typed over the line, over as many
+    // clusters as that has bytes.
     ensures by_movement { redone true (Some 2) (Some (120 ∷ [])) (replace (ForwardChar 1) None)
         ≡ replace (ForwardChar 2) (Some (120 ∷ [])) }
     ensures over { redone true (Some 9) (Some (120 ∷ 121 ∷ [])) (replace (ForwardChar 0) None)

@@ -38,8 +38,8 @@ enum Made {
     Normal(K),
 }
 
-/// With which modifiers it is made, and what they become: each set of them, which stays, gets Ctrl or Shift or loses
-/// Shift; or one set alone, and what that becomes.
+/// With which modifiers it is made, and what they become: each set of them, which stays, gets Ctrl
+/// or Shift or loses Shift; or one set alone, and what that becomes.
 enum With {
     Each,
     EachAndCtrl,
@@ -212,8 +212,8 @@ fn are_made(rt: HostRuntime) {
     }
 }
 
-/// Two sets: the bits of the first, the sets, what they have together, what both have, what one alone has, what the first
-/// alone has, and what the first lacks.
+/// Two sets: the bits of the first, the sets, what they have together, what both have, what one
+/// alone has, what the first alone has, and what the first lacks.
 type Sets = (u8, M, M, M, M, M, M, M);
 
 const COMBINED: &[Sets] = &[
@@ -355,8 +355,8 @@ fn has_members(sets: &Sets) -> bool {
     has == (common == b, common != M::NONE, a == M::NONE) && a.bits() == bits && is_made
 }
 
-/// Sets have their bits and members, and two are combined so, also where one is put into the other, taken from it and
-/// changed round.
+/// Sets have their bits and members, and two are combined so, also where one is put into the other,
+/// taken from it and changed round.
 #[test]
 fn modifiers_are_sets(rt: HostRuntime) {
     for (row, sets) in COMBINED.iter().enumerate() {
@@ -398,7 +398,8 @@ fn is_simple() -> bool {
     matches!(handler, EventHandler::Simple(Cmd::Noop)) && (&"ab").input() == "ab"
 }
 
-/// Equal events are one key of a map, what is bound to one is its handler, and the keys of an event are got by their places.
+/// Equal events are one key of a map, what is bound to one is its handler, and the keys of an event
+/// are got by their places.
 #[test]
 fn of_maps_and_events(rt: HostRuntime) {
     let are_keys = are_keys_of_a_map(rt.alloc()).expect(&rt, "no fault");

@@ -1,5 +1,5 @@
-//! The tests of keys, of their tables, of the map of bindings and of commands, as tables of cases, and a caller of the
-//! documents.
+//! The tests of keys, of their tables, of the map of bindings and of commands, as tables of cases,
+//! and a caller of the documents.
 #![tactic(auto)]
 
 #[cfg(test)]

@@ -1,5 +1,6 @@
-//! Bindings as a map, and key sequences that share their beginnings. Run with any one allocation refused,
-//! `forty_keys_are_bound_or_none` passes: it looks at what is left, or the refusal came before the call.
+//! Bindings as a map, and key sequences that share their beginnings. Run with any one allocation
+//! refused, `forty_keys_are_bound_or_none` passes: it looks at what is left, or the refusal came
+//! before the call.
 
 mod pairs;
 
@@ -19,8 +20,9 @@ use std::process::Abort;
 enum On {
     Each,
     Mouse,
-    /// Keys one after another: those that a text writes, where a letter x stands for that letter with Ctrl; and after
-    /// them so many of 500 different keys, from the one of a number on. The next 500 are these again.
+    /// Keys one after another: those that a text writes, where a letter x stands for that letter
+    /// with Ctrl; and after them so many of 500 different keys, from the one of a number on. The
+    /// next 500 are these again.
     Keys(&'static str, usize, usize),
 }
 
@@ -68,8 +70,8 @@ fn number(handler: Option<&EventHandler>) -> Option<u16> {
     }
 }
 
-/// What is done with a map: another one is begun; an event is bound to a number; or it is looked up, and is or begins a bound
-/// one, or not. Or it is copied, and its normal form is another event.
+/// What is done with a map: another one is begun; an event is bound to a number; or it is looked
+/// up, and is or begins a bound one, or not. Or it is copied, and its normal form is another event.
 #[derive(Drop)]
 enum Does {
     Starts,
@@ -78,7 +80,8 @@ enum Does {
     Becomes(On),
 }
 
-/// What is done with an event, the number that the map answers for it, and how many nodes the map has then.
+/// What is done with an event, the number that the map answers for it, and how many nodes the map
+/// has then.
 type Step = (Does, On, Option<u16>, usize);
 
 const STEPS: &[Step] = &[
@@ -133,7 +136,8 @@ fn is_copied(alloc: Global, on: &On, normal: &On) -> Result<bool> {
     Ok(is_same && is_normal)
 }
 
-/// Binds an event to a number, and answers the one that it had. Where memory runs out, the number of nodes is as it was.
+/// Binds an event to a number, and answers the one that it had. Where memory runs out, the number
+/// of nodes is as it was.
 fn binds(
     rt: &impl Abort,
     alloc: Global,
@@ -175,7 +179,8 @@ fn takes(rt: &impl Abort, alloc: Global, bindings: &mut Bindings, step: &Step) -
     Ok(())
 }
 
-/// One of 500 keys after these others is bound to a number of its own, or then found, after so many steps.
+/// One of 500 keys after these others is bound to a number of its own, or then found, after so many
+/// steps.
 fn shares(i: u16, front: &'static str) -> Step {
     let own = i % 500;
     let (does, wanted) = if i < 500 {
@@ -214,7 +219,8 @@ fn events_are_keys_of_a_map(rt: HostRuntime) {
 /// How many of forty keys are bound to 1, and how many to 2; or 0, where none are.
 type Bound = (usize, usize);
 
-/// How many keys are bound to a number, what is bound before that, and then. Where nothing is bound before, a new map is begun.
+/// How many keys are bound to a number, what is bound before that, and then. Where nothing is bound
+/// before, a new map is begun.
 type Binding = (usize, u16, Bound, Bound);
 
 const FORTY: &[Binding] = &[

@@ -1,4 +1,5 @@
-//! Examples of phrases: what the definitions say of fixed keys, worked out by hand. No call is made here.
+//! Examples of phrases: what the definitions say of fixed keys, worked out by hand. No call is made
+//! here.
 ghost use Rattle.std.specs.Prelude.{◌≡◌, [], ◌∷◌, None, Some, false, true};
 ghost use Rattle.line_buffer.specs.declared.movement.CharSearch.TheVariants.{Backward, Forward};
 ghost use Rattle.line_buffer.specs.declared.movement.Movement.TheVariants.{BackwardChar, ViCharSearch};
@@ -55,7 +56,8 @@ pub fn phrases_of_emacs()
           input = first_input Emacs;
           shown = shows_count (event (Char 51) ALT ∷ []) ∷ shows_line ∷ kept ∷ [];
         }) }
-    // The mark before a pasted text and the text x are a phrase that inserts x once, and nothing else changes.
+    // The mark before a pasted text and the text x are a phrase that inserts x once, and nothing
+    // else changes.
     ensures paste_once { (environment : Environment) → Phrase nothing_bound environment (empty_draft 0)
         (first_input Emacs) (key (event BracketedPasteStart NONE) ∷ paste (120 ∷ []) ∷ [])
         (record {
@@ -127,7 +129,8 @@ pub fn phrases_of_emacs()
           input = first_input Emacs;
           shown = kept ∷ kept ∷ [];
         }) }
-    // Where the sequence C-X, a is bound, C-X, C-U takes a step back: the second of the keys read in vain counts.
+    // Where the sequence C-X, a is bound, C-X, C-U takes a step back: the second of the keys read
+    // in vain counts.
     ensures second_key_of_all { (environment : Environment) →
         let sequence = keys (event (Char 88) CTRL ∷ event (Char 97) NONE ∷ []) in
         Phrase (only_bound sequence (Some noop)) environment (empty_draft 0) (first_input Emacs)
@@ -177,8 +180,8 @@ pub fn what_a_key_stands_for()
     ensures handed_in_emacs { handed styles.Emacs modes.Insert (Some (record { n = 3; positive = false }))
         ≡ record { n = 3; positive = false } }
     ensures handed_untyped { handed styles.Emacs modes.Insert None ≡ one }
-    // By the table C-D on an empty line is Unknown. The reader's end of the input counts on an empty line, and not on
-    // another.
+    // By the table C-D on an empty line is Unknown. The reader's end of the input counts on an
+    // empty line, and not on another.
     ensures end_by_table { (row_of Emacs modes.Insert (event (Char 68) CTRL) (empty_draft 0)).entry None
         ≡ stays (gives unknown) }
     ensures end_on_empty { on_line [] (Some end_of_file) ≡ Some end_of_file }
@@ -197,7 +200,8 @@ pub fn what_a_key_stands_for()
       bound = (each_key, answers (Some noop)) ∷ (keys (event (F 2) NONE ∷ []), answers None) ∷ [];
       own = λ typed. None;
     }) (empty_draft 0) (first_input Emacs) None (event (F 2) NONE) ≡ None }
-    // Where C-X, a is bound, one more key is read after C-X, and none after C-X, b; C-X alone has no handler.
+    // Where C-X, a is bound, one more key is read after C-X, and none after C-X, b; C-X alone has
+    // no handler.
     ensures beginning_of_sequence { let begin = event (Char 88) CTRL in
         let bound = (keys (begin ∷ event (Char 97) NONE ∷ []), answers (Some noop)) ∷ [] in
         (leads_on bound (begin ∷ []) ≡ true)

@@ -36,7 +36,8 @@ enum Way {
     Listed,
 }
 
-/// A count: how it is handed to the tables, or else its keys; whether it is positive; and its number.
+/// A count: how it is handed to the tables, or else its keys; whether it is positive; and its
+/// number.
 type Counted = (Option<Count>, &'static str, bool, &'static str);
 
 const COUNTS: &[Counted] = &[
@@ -227,7 +228,8 @@ fn of_counts(rt: HostRuntime) {
     }
 }
 
-/// A key, and whether a count begins with it, and goes on with it, in Emacs and in Vi's command mode.
+/// A key, and whether a count begins with it, and goes on with it, in Emacs and in Vi's command
+/// mode.
 type CountKey = (K, M, bool, bool, bool, bool);
 
 const COUNT_KEYS: &[CountKey] = &[

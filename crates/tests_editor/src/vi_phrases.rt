@@ -1,4 +1,5 @@
-//! Examples of Vi's phrases: what the definitions say of fixed keys, worked out by hand. No call is made here.
+//! Examples of Vi's phrases: what the definitions say of fixed keys, worked out by hand. No call is
+//! made here.
 ghost use Rattle.std.specs.Prelude.{◌≡◌, [], ◌∷◌, None, Some, false, true};
 ghost use Rattle.line_buffer.specs.declared.movement.At.TheVariants.{AfterEnd, Start};
 ghost use Rattle.line_buffer.specs.declared.movement.CharSearch.TheVariants.{Backward, Forward, ForwardBefore};
@@ -16,9 +17,11 @@ ghost use Rattle.line_keys.specs.declared.keys.TheConstants.Modifiers.{NONE};
 ghost use Rattle.line_keys.specs.declared.refresher.InputMode.TheVariants.{Command, Insert, Replace};
 ghost use Rattle.tests_editor.specs.Spoken.{Comes, InCommandMode, InInsertMode, LeavesDraft, TwiceAgain, TwiceAgainBehind, blank, commanding, inserting, plain, typed, vi, with_alt};
 
-/// Counts, operators with their motions, and searches for a character, on an empty line in command mode.
+/// Counts, operators with their motions, and searches for a character, on an empty line in command
+/// mode.
 pub fn operators_and_searches()
-    // The keys 0 2 d 3 w are two phrases: 0 goes to the line's start, and the others kill to the sixth word on.
+    // The keys 0 2 d 3 w are two phrases: 0 goes to the line's start, and the others kill to the
+    // sixth word on.
     ensures zero { InCommandMode (typed (48 ∷ [])) (move BeginningOfLine) commanding }
     ensures multiplied { let killed = kill (ForwardWord 6 Start words.Vi) in
         InCommandMode (typed (50 ∷ 100 ∷ 51 ∷ 119 ∷ [])) killed (vi Command (Some killed) None) }
@@ -40,7 +43,8 @@ pub fn operators_and_searches()
         InCommandMode (typed (100 ∷ 87 ∷ [])) killed (vi Command (Some killed) None) }
     // A change without a motion stays in insert mode.
     ensures changes_nothing { InCommandMode (typed (99 ∷ 113 ∷ [])) unknown inserting }
-    // A search is kept where a plain character is read, also after an operator; any other key leaves the one before.
+    // A search is kept where a plain character is read, also after an operator; any other key
+    // leaves the one before.
     ensures moved { let left = vi Command None (Some (Forward 120)) in
         InCommandMode (typed (102 ∷ 120 ∷ [])) (move (ViCharSearch 1 (Forward 120))) left }
     ensures killed_to_a_character { let killed = kill (ViCharSearch 2 (ForwardBefore 120)) in
@@ -75,8 +79,9 @@ pub fn the_last_change()
     ensures yanked { TwiceAgain (yank 1 After) (yank 2 After) }
     ensures replaced { TwiceAgain (replace_char 1 120) (replace_char 2 120) }
     ensures without_count { TwiceAgain (indent WholeLine) (indent WholeLine) }
-    // The text that was inserted last takes the place of what a replacement covers, and of a typed character. What was
-    // typed over the line covers as much again as it has bytes, whatever the count.
+    // The text that was inserted last takes the place of what a replacement covers, and of a typed
+    // character. What was typed over the line covers as much again as it has bytes, whatever the
+    // count.
     ensures replaced_by_text { let text = 120 ∷ 121 ∷ 122 ∷ [] in TwiceAgainBehind text
         (replace (ForwardChar 1) None) (replace (ForwardChar 2) (Some text)) }
     ensures typed_over { let text = 120 ∷ 121 ∷ 122 ∷ [] in TwiceAgainBehind text
@@ -108,8 +113,8 @@ pub fn insert_mode()
         InInsertMode (with_alt 100 ∷ typed (119 ∷ [])) killed (vi Command (Some killed) None) }
     ensures counted { let killed = kill (ForwardChar 12) in
         InInsertMode (with_alt 49 ∷ typed (50 ∷ 120 ∷ [])) killed (vi Command (Some killed) None) }
-    // There the binding of the plain key counts, and its command becomes the last change by the rule of insert mode. A
-    // binding of the key with Alt comes first, and the mode stays.
+    // There the binding of the plain key counts, and its command becomes the last change by the
+    // rule of insert mode. A binding of the key with Alt comes first, and the mode stays.
     ensures plain_key { let killed = kill (BackwardChar 2) in
         let keymap = only_bound (keys (plain 119 ∷ [])) (Some killed) in
         Comes keymap blank inserting (with_alt 119 ∷ []) killed (vi Command (Some killed) None) }

@@ -40,8 +40,9 @@ impl Hint for Tip {
     }
 }
 
-/// A helper: its answers, which are the same for each line, and what it was asked. It asks for a full drawing of one kind
-/// alone, shows for each line what it was asked last, and one of its hints and validation results can fail.
+/// A helper: its answers, which are the same for each line, and what it was asked. It asks for a
+/// full drawing of one kind alone, shows for each line what it was asked last, and one of its hints
+/// and validation results can fail.
 #[derive(Drop)]
 pub struct Advisor {
     /// What it hints for each line.
@@ -56,7 +57,8 @@ pub struct Advisor {
 pub type Verdict = (bool, bool, Option<&'static str>);
 
 impl Advisor {
-    /// A helper with these answers, which was asked nothing yet. Its hint completes the line with what it displays.
+    /// A helper with these answers, which was asked nothing yet. Its hint completes the line with
+    /// what it displays.
     pub fn new(hint: Option<&'static str>, verdict: Verdict, lit: Option<CmdKind>) -> Advisor {
         let hint = match hint {
             Some(text) => Some(Tip(text, Some(text))),
@@ -71,7 +73,8 @@ impl Advisor {
         }
     }
 
-    /// Its hint or validation result of the number `failing`, from 1 on, fails by this fault; none does where that is 0.
+    /// Its hint or validation result of the number `failing`, from 1 on, fails by this fault; none
+    /// does where that is 0.
     pub fn fail_by(&mut self, failing: u64, fault: Fault) {
         self.countdown = Countdown::with(failing, fault);
     }

@@ -5,7 +5,8 @@ use crate::fault::Fault;
 use line_config::Result;
 use std::cell::Cell;
 
-/// How many calls come up to the one that fails, itself included, 0 where none is to fail; and what it answers.
+/// How many calls come up to the one that fails, itself included, 0 where none is to fail; and what
+/// it answers.
 #[derive(Drop)]
 pub struct Countdown {
     left: Cell<u64>,

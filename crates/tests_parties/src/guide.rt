@@ -14,8 +14,8 @@ use line_parts::{
 };
 use std::alloc::Global;
 
-/// A helper that hints from the history and checks the brackets of a line, each where it is to, and highlights nothing. One of
-/// the calls for a hint or a validation result can fail.
+/// A helper that hints from the history and checks the brackets of a line, each where it is to, and
+/// highlights nothing. One of the calls for a hint or a validation result can fail.
 #[derive(Drop)]
 pub struct Guide {
     hints: bool,
@@ -33,7 +33,8 @@ impl Guide {
         }
     }
 
-    /// Its hint or validation result of the number `failing`, from 1 on, fails by this fault; none does where that is 0.
+    /// Its hint or validation result of the number `failing`, from 1 on, fails by this fault; none
+    /// does where that is 0.
     pub fn fail_by(&mut self, failing: u64, fault: Fault) {
         self.countdown = Countdown::with(failing, fault);
     }

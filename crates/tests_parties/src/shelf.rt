@@ -46,7 +46,8 @@ impl Drop for Shelf {
 }
 
 impl Shelf {
-    /// A history without lines. Its look-up of the number `failing`, from 1 on, fails; none does where that is 0.
+    /// A history without lines. Its look-up of the number `failing`, from 1 on, fails; none does
+    /// where that is 0.
     pub fn new(alloc: Global, failing: u64) -> Shelf {
         Shelf {
             lines: MemHistory::new(alloc),
@@ -55,7 +56,8 @@ impl Shelf {
         }
     }
 
-    /// Its look-up of the number `failing`, from 1 on, fails by this fault; none does where that is 0.
+    /// Its look-up of the number `failing`, from 1 on, fails by this fault; none does where that is
+    /// 0.
     pub fn fail_by(&mut self, failing: u64, fault: Fault) {
         self.countdown = Countdown::with(failing, fault);
     }

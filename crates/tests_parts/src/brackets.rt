@@ -7,8 +7,8 @@ use line_parts::{CmdKind, Highlighter, MatchingBracketHighlighter, MatchingBrack
 use std::alloc::Global;
 use std::process::Abort;
 
-/// Whether a new highlighter that is told of the line remembers a bracket or not, as it is to; a line that is handed over
-/// has none.
+/// Whether a new highlighter that is told of the line remembers a bracket or not, as it is to; a
+/// line that is handed over has none.
 fn remembers(line: &str, pos: usize, wanted: bool) -> bool {
     for (kind, found) in [
         (CmdKind::MoveCursor, wanted),
@@ -23,10 +23,12 @@ fn remembers(line: &str, pos: usize, wanted: bool) -> bool {
     true
 }
 
-/// What a highlighter is told of: a line and the cursor, and then perhaps another line, by a kind and at its start.
+/// What a highlighter is told of: a line and the cursor, and then perhaps another line, by a kind
+/// and at its start.
 type Told<'t> = (&'t str, usize, Option<(CmdKind, &'t str)>);
 
-/// Whether this highlighter shows a line as it stands, and so once it was told, with the cursor there and by a kind.
+/// Whether this highlighter shows a line as it stands, and so once it was told, with the cursor
+/// there and by a kind.
 fn shows_by(
     alloc: Global,
     highlighter: &mut MatchingBracketHighlighter,
@@ -42,8 +44,8 @@ fn shows_by(
     before && is_shown(highlighter.highlight(alloc, line, cursor), wanted)
 }
 
-/// Whether a line is shown so once the highlighter was told, whatever drew the first line and wherever the cursor is now;
-/// and as it stands before.
+/// Whether a line is shown so once the highlighter was told, whatever drew the first line and
+/// wherever the cursor is now; and as it stands before.
 fn shows(alloc: Global, told: Told<'_>, line: &str, wanted: &str) -> bool {
     let mut one = MatchingBracketHighlighter::new();
     let mut other = MatchingBracketHighlighter::default();
@@ -261,7 +263,8 @@ pub(super) const CASES: &[Case<'_>] = &[
     ("(..)", Asked::MatchIn(0, "", "")),
     // nothing is remembered
     ("(())a", Asked::MatchIn(5, "(())", "(())")),
-    // told of it again, it is remembered still; told of another line, or of a line that is handed over, it is forgotten
+    // told of it again, it is remembered still; told of another line, or of a line that is handed
+    // over, it is forgotten
     (
         "(())",
         Asked::MatchAfter(CmdKind::Other, "(())", "(()\x1b[1;34m)\x1b[0m"),

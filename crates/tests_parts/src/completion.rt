@@ -1,4 +1,5 @@
-//! Completion: words and their escapes, what candidates begin with in common, pairs, and completers.
+//! Completion: words and their escapes, what candidates begin with in common, pairs, and
+//! completers.
 
 mod faults;
 
@@ -83,7 +84,8 @@ fn pair_of(alloc: Global, display: &str, replacement: &str) -> Result<Pair> {
     })
 }
 
-/// Whether the copy of a pair is that pair, and its replacement begins with that of another pair as it is to.
+/// Whether the copy of a pair is that pair, and its replacement begins with that of another pair as
+/// it is to.
 fn are_paired(
     alloc: Global,
     (display, replacement): (&str, &str),
@@ -186,7 +188,8 @@ pub(super) const CASES: &[Case<'_>] = &[
     ("日|日", Asked::Alike(2, Some("日"))),
     // Pairs complete by their replacements.
     ("one", Asked::Paired("ab", "ac", "a")),
-    // A completer offers nothing, and puts an elected text into the line, or fails at one of the two.
+    // A completer offers nothing, and puts an elected text into the line, or fails at one of the
+    // two.
     (
         "us -l",
         Asked::Elected(Which::Unit, 2, "usr", ("us -l", 2, 0)),

@@ -129,8 +129,8 @@ fn found(
     }
 }
 
-/// Where the path begins, and what completes it: an arrow stands between what is shown and what is put in, and a comma
-/// between candidates.
+/// Where the path begins, and what completes it: an arrow stands between what is shown and what is
+/// put in, and a comma between candidates.
 type Offered<'t> = (usize, &'t str);
 
 /// Whether this was found.
@@ -153,7 +153,8 @@ pub(super) const AS_LISTED: &[Way] = &[Unsorted];
 /// A line, its cursor, the folder that is asked for, its names, and what is found.
 pub(super) type Completed<'t> = (&'t str, usize, (&'t str, &'t str), Offered<'t>);
 
-/// Whether the names of a folder, asked for by each of these calls, complete a line so, or the fault comes where it is to.
+/// Whether the names of a folder, asked for by each of these calls, complete a line so, or the
+/// fault comes where it is to.
 pub(super) fn completes(
     alloc: Global,
     ways: &[Way],
@@ -179,7 +180,8 @@ pub(super) fn completes(
     Ok(true)
 }
 
-/// How many names complete a line, and the last of them, as it is shown and put in, where it is told.
+/// How many names complete a line, and the last of them, as it is shown and put in, where it is
+/// told.
 pub(super) type Last<'t> = (usize, Option<(&'t str, &'t str)>);
 
 /// The names of the folders `n 2999`, `n 2998` and so on, down to `n 0`.
@@ -200,7 +202,8 @@ fn is_last(pairs: &[Pair], last: Option<(&str, &str)>) -> bool {
     }
 }
 
-/// Whether so many of some thousand folders complete the line, and the last of them is the one that is told.
+/// Whether so many of some thousand folders complete the line, and the last of them is the one that
+/// is told.
 pub(super) fn are_many(
     alloc: Global,
     line: &str,
@@ -315,7 +318,8 @@ pub(super) const CASES: &[Case<'_>] = &[
             " \t\n\"\\'`@$><=;|&{(\0x →  \t\n\\\"\\\\'\\`@\\$><=;|&{(\0x",
         ),
     ),
-    // Single quotes know no escape, so these are closed; an escaped backslash does not escape the quote after it.
+    // Single quotes know no escape, so these are closed; an escaped backslash does not escape the
+    // quote after it.
     (
         "'a\\' Us",
         Asked::Path(
@@ -359,7 +363,8 @@ pub(super) const CASES: &[Case<'_>] = &[
             "User Information → User Information/, Users → Users/",
         ),
     ),
-    // The folder is asked for without its escapes, and the candidate has those that its quotes need.
+    // The folder is asked for without its escapes, and the candidate has those that its quotes
+    // need.
     (
         "\"a\\$b/l",
         Asked::Path(7, "a$b/", NAMES, 1, "lib.rs → a\\$b/lib.rs"),
@@ -375,9 +380,11 @@ pub(super) const CASES: &[Case<'_>] = &[
     ),
     // A folder that cannot be listed, in quotes.
     ("ls \"x", Asked::Path(5, "other/", NAMES, 4, "")),
-    // Going back, the blank is passed together with the backslash before it, whatever stands before that.
+    // Going back, the blank is passed together with the backslash before it, whatever stands before
+    // that.
     ("ls a\\\\ b", Asked::Path(8, "", " bc", 5, " bc → \\ bc")),
-    // What stands after the cursor does not matter. A lone backslash at the end breaks the word, and goes in double quotes.
+    // What stands after the cursor does not matter. A lone backslash at the end breaks the word,
+    // and goes in double quotes.
     (
         "ls lib \"x",
         Asked::Path(6, "", NAMES, 3, "lib.rs → lib.rs"),
@@ -408,8 +415,8 @@ pub(super) const CASES: &[Case<'_>] = &[
             "Users → Users/, User Information → User\\ Information/",
         ),
     ),
-    // Of the numbers below 3,000 there are 1,111 that begin with 1: 1, 10, 100, 1000 and so on. In their order the last is
-    // 999.
+    // Of the numbers below 3,000 there are 1,111 that begin with 1: 1, 10, 100, 1000 and so on. In
+    // their order the last is 999.
     (
         "",
         Asked::Many(Sorted, (3_000, Some(("n 999", "n\\ 999/")))),

@@ -11,8 +11,8 @@ use std::alloc::Global;
 /// A line, the cursor, and the hint, if there is one.
 type Hinted<'t> = (&'t str, usize, Option<&'t str>);
 
-/// Whether the line has this hint by the lines between the strokes, which the history gets, looked for from an index, or from
-/// the end where there are fewer lines; the unit has none.
+/// Whether the line has this hint by the lines between the strokes, which the history gets, looked
+/// for from an index, or from the end where there are fewer lines; the unit has none.
 pub(super) fn hints<S: History>(
     alloc: Global,
     hinter: &HistoryHinter,

@@ -32,7 +32,8 @@ pub(super) enum Long {
     Path,
 }
 
-/// What is asked, the text, the answer that is a text, and another text, as they are built of pieces.
+/// What is asked, the text, the answer that is a text, and another text, as they are built of
+/// pieces.
 pub(super) type Case = (Long, &'static str, &'static str, &'static str);
 
 /// No text.

@@ -35,8 +35,8 @@ fn is_left(alloc: Global, text: &str) -> bool {
         && is_shown(unit.highlight_hint(alloc, text), text)
 }
 
-/// Whether an editor gets the one answer about a text from no helper and from the unit, and the other one from a helper with
-/// a hint.
+/// Whether an editor gets the one answer about a text from no helper and from the unit, and the
+/// other one from a helper with a hint.
 fn is_answered(rt: &impl Abort, alloc: Global, text: &str, wanted: Answer, told: Answer) -> bool {
     let mut advisor = Advisor::new(Some("!"), (true, true, None), None);
     answers(rt, alloc, None::<&mut ()>, text, wanted, None)
@@ -44,8 +44,8 @@ fn is_answered(rt: &impl Abort, alloc: Global, text: &str, wanted: Answer, told:
         && answers(rt, alloc, Some(&mut advisor), text, told, None)
 }
 
-/// Whether a text stands for itself, the unit and no helper at all leave it as it is, and an editor gets a helper's answers
-/// about it.
+/// Whether a text stands for itself, the unit and no helper at all leave it as it is, and an editor
+/// gets a helper's answers about it.
 pub(super) fn stays(rt: &impl Abort, alloc: Global, text: &str) -> bool {
     let owned = String::from_str(alloc, text).expect(rt, "no fault");
     let hint = Answer::Hint(Some("!"));
@@ -126,8 +126,8 @@ fn keep_their_answers(rt: &impl Abort, alloc: Global) {
     holds(rt, unit && is_told, "unit", 0);
 }
 
-/// A helper keeps its answers, and so does the unit. Each answer, and each error of a helper, a history or a lister, is
-/// handed on.
+/// A helper keeps its answers, and so does the unit. Each answer, and each error of a helper, a
+/// history or a lister, is handed on.
 #[test]
 fn answers_and_errors_are_handed_on(rt: HostRuntime) {
     let alloc = rt.alloc();

@@ -1,7 +1,6 @@
 //! The ready helpers: a case is a text, what is asked about it, and the right answer.
 
 use crate::filename::{AS_LISTED, Broken, IN_ORDER, Way, completes};
-use crate::history::built;
 use crate::{brackets, completion, filename, history_hinter, holds, large, parties};
 use line_config::{ReadlineError, Result};
 use line_parts::{
@@ -12,6 +11,7 @@ use std::alloc::Global;
 use std::borrow::CowStr;
 use std::process::Abort;
 use tests_parties::fault::GONE;
+use tests_parties::pieces::built;
 use tests_parties::shelf::{Failing, Shelf};
 
 /// A text, and what is asked about it.
@@ -20,7 +20,8 @@ pub(super) type Case<'t> = (&'t str, Asked<'t>);
 /// What is asked about a text, with the right answer at its end.
 #[derive(Clone, Copy)]
 pub(super) enum Asked<'t> {
-    /// The validation result for its brackets: name and message, empty where there is none. The unit takes each text.
+    /// The validation result for its brackets: name and message, empty where there is none. The
+    /// unit takes each text.
     Verdict(&'t str, &'t str),
     /// Whether a bracket is remembered, with the cursor there.
     Remembered(usize, bool),
@@ -28,7 +29,8 @@ pub(super) enum Asked<'t> {
     Match(usize, &'t str),
     /// How another line is shown then: the bracket counts as standing where it was.
     MatchIn(usize, &'t str, &'t str),
-    /// How it is shown, once the highlighter was asked about it with the cursor at its start, and of a line by a kind.
+    /// How it is shown, once the highlighter was asked about it with the cursor at its start, and
+    /// of a line by a kind.
     MatchAfter(CmdKind, &'t str, &'t str),
     /// Where the word before a cursor begins, by an escape character, and the word.
     Word(usize, Option<char>, usize, &'t str),
@@ -36,10 +38,11 @@ pub(super) enum Asked<'t> {
     Escaped(Option<char>, Quote, &'t str),
     /// The text without its escapes, by an escape character, and whether that is the text itself.
     Unescaped(Option<char>, &'t str, bool),
-    /// What the first of the texts in it begin with in common, so many of them; a stroke stands between two.
+    /// What the first of the texts in it begin with in common, so many of them; a stroke stands
+    /// between two.
     Alike(usize, Option<&'t str>),
-    /// By a completer, with a cursor: a text that is elected to stand at its start, and the line, its cursor and how
-    /// many changes there are then.
+    /// By a completer, with a cursor: a text that is elected to stand at its start, and the line,
+    /// its cursor and how many changes there are then.
     Elected(completion::Which, usize, &'t str, (&'t str, usize, usize)),
     /// Shown in a pair for a replacement, which has something in common with that of another pair.
     Paired(&'t str, &'t str, &'t str),
@@ -47,7 +50,8 @@ pub(super) enum Asked<'t> {
     Hint(&'t str, usize, usize, Option<&'t str>),
     /// That it stays as it is: as a candidate, as a hint, and by the unit.
     Plain,
-    /// With a cursor, the folder that can be listed and the names in it: where the path begins, and what completes it.
+    /// With a cursor, the folder that can be listed and the names in it: where the path begins, and
+    /// what completes it.
     Path(usize, &'t str, &'t str, usize, &'t str),
     /// The same, in the order of the lister.
     Listed(usize, &'t str, &'t str, usize, &'t str),
@@ -99,7 +103,8 @@ pub(super) fn broken_history(alloc: Global) -> Shelf {
     history
 }
 
-/// Whether the answer is the right one. What is also asked with an allocation refused hands its error on.
+/// Whether the answer is the right one. What is also asked with an allocation refused hands its
+/// error on.
 fn is_right(rt: &impl Abort, alloc: Global, text: &str, asked: &Asked<'_>) -> Result<bool> {
     match *asked {
         Asked::Hint(lines, index, pos, wanted) => {
@@ -137,9 +142,9 @@ pub(super) fn are_right(rt: &impl Abort, alloc: Global, table: &[Case<'_>], may_
 /// The answer about a long text, which is built of pieces, is the right one.
 fn long_is_right(rt: &impl Abort, alloc: Global, case: &large::Case, row: usize) {
     let (long, text, wanted, other) = case;
-    let text = built(rt, alloc, text);
-    let wanted = built(rt, alloc, wanted);
-    let other = built(rt, alloc, other);
+    let text = built(alloc, text).expect(rt, "no fault");
+    let wanted = built(alloc, wanted).expect(rt, "no fault");
+    let other = built(alloc, other).expect(rt, "no fault");
     let asked = large::asked_of(long, text.as_str(), wanted.as_str(), other.as_str());
     let right = is_right(rt, alloc, text.as_str(), &asked).expect(rt, "no fault");
     holds(rt, right, text.as_str(), row);
@@ -208,7 +213,8 @@ fn is_lit_or_refused(alloc: Global, highlighter: &MatchingBracketHighlighter) ->
     }
 }
 
-/// Run with any one allocation refused, this passes: every answer is the right one, and the bracket is remembered.
+/// Run with any one allocation refused, this passes: every answer is the right one, and the bracket
+/// is remembered.
 #[test]
 fn a_refused_allocation_has_no_answer(rt: HostRuntime) {
     are_right(&rt, rt.alloc(), brackets::AT_FAULT, true);

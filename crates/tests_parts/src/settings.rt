@@ -29,7 +29,8 @@ enum Made {
     SetBuilder,
 }
 
-/// Each setting but the behavior and the synchronized output away from its default, by the calls of whatever holds them.
+/// Each setting but the behavior and the synchronized output away from its default, by the calls of
+/// whatever holds them.
 fn set_all<C: Configurer>(rt: &impl Abort, holder: &mut C) {
     holder.set_max_history_size(7).expect(rt, "no fault");
     holder.set_history_ignore_dups(false).expect(rt, "no fault");
@@ -204,8 +205,8 @@ const SET: Settings = (
     (4, 3),
 );
 
-/// How a configuration is made, the value of `NO_COLOR`, the colors that are shown then, the timeout, and every setting
-/// with no such value, where they are written down.
+/// How a configuration is made, the value of `NO_COLOR`, the colors that are shown then, the
+/// timeout, and every setting with no such value, where they are written down.
 type Holder = (
     Made,
     Option<&'static str>,
@@ -309,8 +310,8 @@ const HOLDERS: &[Holder] = &[
     ),
 ];
 
-/// What was set is read back. Of the configurations with one change each equals itself alone, built anew; its clone, and that
-/// of its builder, has what was set, and leaves its source as it was.
+/// What was set is read back. Of the configurations with one change each equals itself alone, built
+/// anew; its clone, and that of its builder, has what was set, and leaves its source as it was.
 #[test]
 fn are_read_back_and_copied(rt: HostRuntime) {
     for (index, (how, value, shown, timeout, wanted)) in HOLDERS.iter().enumerate() {
@@ -371,7 +372,8 @@ fn error_of(cause: &Cause) -> ReadlineError {
     }
 }
 
-/// A cause; the text and what `Debug` shows, where these are written down; and the kind of an error of input or output.
+/// A cause; the text and what `Debug` shows, where these are written down; and the kind of an error
+/// of input or output.
 type Error = (
     Cause,
     Option<&'static str>,

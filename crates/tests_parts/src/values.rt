@@ -1,4 +1,5 @@
-//! Types that are compared, ordered, copied and shown: no two values of a list are equal, and `Debug` names each.
+//! Types that are compared, ordered, copied and shown: no two values of a list are equal, and
+//! `Debug` names each.
 
 use crate::holds;
 use line_buffer::{
@@ -21,7 +22,8 @@ pub(super) fn debug_text<T: Debug + Drop>(rt: &impl Abort, alloc: Global, value:
     format!(in alloc; "{value:?}").expect(rt, "no fault")
 }
 
-/// Each value is shown by its name, and is equal, a copy of it included, where it stands at the same place.
+/// Each value is shown by its name, and is equal, a copy of it included, where it stands at the
+/// same place.
 fn are_distinct<T: Clone + Drop + PartialEq + Debug>(
     rt: &impl Abort,
     alloc: Global,
@@ -230,7 +232,8 @@ fn are_in_order(one: &Position, other: &Position, index: usize, place: usize) ->
         && (*one < *other) == (index < place)
 }
 
-/// No two of a list are equal, copies included, and `Debug` names each. Positions are in order, by each comparison.
+/// No two of a list are equal, copies included, and `Debug` names each. Positions are in order, by
+/// each comparison.
 #[test]
 fn no_two_are_equal(rt: HostRuntime) {
     of_lines(&rt, rt.alloc());
@@ -269,7 +272,8 @@ const RESULTS: &[Found] = &[
     ("ab", 1, 1),
 ];
 
-/// Whether two results are the same or not, as they are to be, also where one of them is copied or owns its line.
+/// Whether two results are the same or not, as they are to be, also where one of them is copied or
+/// owns its line.
 fn are_apart(rt: &impl Abort, alloc: Global, one: &Found, other: &Found, same: bool) -> bool {
     let mine = result_of(rt, alloc, one, false);
     let theirs = result_of(rt, alloc, other, false);
@@ -356,8 +360,9 @@ const PIECES: &[(Shown, &str)] = &[
     (Shown::Config, "enable_signals: false"),
 ];
 
-/// What `Debug` shows: a builder with its settings. A result equals one of the same values alone, also where one of them owns
-/// its line; so does its copy. The defaults are looked at without a comparison of the type too.
+/// What `Debug` shows: a builder with its settings. A result equals one of the same values alone,
+/// also where one of them owns its line; so does its copy. The defaults are looked at without a
+/// comparison of the type too.
 #[test]
 fn pieces_results_and_defaults(rt: HostRuntime) {
     let alloc = rt.alloc();

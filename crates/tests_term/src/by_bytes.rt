@@ -1,6 +1,6 @@
-//! What bytes come to, whole and in pieces. Bytes are written as texts: a character is the byte of its number, `…` a
-//! pause behind which nothing has begun, `⋯` one behind which something goes on, `‖` the longest silence, and `■` the
-//! end of the input.
+//! What bytes come to, whole and in pieces. Bytes are written as texts: a character is the byte of
+//! its number, `…` a pause behind which nothing has begun, `⋯` one behind which something goes on,
+//! `‖` the longest silence, and `■` the end of the input.
 
 use line_keys::key_named;
 use line_keys::keys::{KeyCode, KeyEvent, Modifiers};
@@ -24,12 +24,12 @@ const TEXT: char = '“';
 
 const PASTE_START: KeyEvent = KeyEvent(KeyCode::BracketedPasteStart, Modifiers::NONE);
 
-/// What a pasted text may have before its end, the bytes in front of those of a row, and the modifiers that the keys of
-/// its names have besides.
+/// What a pasted text may have before its end, the bytes in front of those of a row, and the
+/// modifiers that the keys of its names have besides.
 pub type Way = (usize, &'static str, Modifiers);
 
-/// Does what a mark between bytes says. Returns whether no call fails, and something is left waiting behind a short pause, and nothing
-/// behind another one.
+/// Does what a mark between bytes says. Returns whether no call fails, and something is left
+/// waiting behind a short pause, and nothing behind another one.
 fn settles(decoder: &mut Decoder, keys: &mut KeyQueue, mark: char) -> bool {
     if mark == END {
         return decoder.finish(keys).is_ok();
@@ -43,7 +43,8 @@ fn settles(decoder: &mut Decoder, keys: &mut KeyQueue, mark: char) -> bool {
     decoder.is_waiting() == (mark == SHORT_PAUSE)
 }
 
-/// Feeds bytes, cut at a place. Returns whether no call fails, and no pause leaves more or less waiting than it says.
+/// Feeds bytes, cut at a place. Returns whether no call fails, and no pause leaves more or less
+/// waiting than it says.
 pub fn feeds(
     alloc: Global,
     decoder: &mut Decoder,
@@ -95,7 +96,8 @@ pub fn first_wrong(alloc: Global, way: Way, bytes: &str, names: &str) -> Option<
     None
 }
 
-/// Whether a queue has the keys of these names with these modifiers and the pasted texts, and nothing else.
+/// Whether a queue has the keys of these names with these modifiers and the pasted texts, and
+/// nothing else.
 fn are(keys: &mut KeyQueue, names: &str, modifiers: Modifiers) -> bool {
     for name in names.split(' ') {
         if name.is_empty() {

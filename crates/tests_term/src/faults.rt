@@ -1,4 +1,5 @@
-//! What is left where one of those who are asked fails, at each of its calls, and where memory runs out: commands are read on.
+//! What is left where one of those who are asked fails, at each of its calls, and where memory runs
+//! out: commands are read on.
 
 use crate::holds;
 use crate::parties::{Failing, NOBODY};
@@ -16,8 +17,9 @@ use std::process::Abort;
 use tests_parties::fault::GONE;
 use tests_parties::shelf::Shelf;
 
-/// Who fails in turn, what is tried, the words or the lines of the history, what is typed, the line from before a completion or a
-/// search, and after which text of a list the line is drawn on a new row.
+/// Who fails in turn, what is tried, the words or the lines of the history, what is typed, the line
+/// from before a completion or a search, and after which text of a list the line is drawn on a new
+/// row.
 type Case = (
     &'static str,
     &'static str,
@@ -86,7 +88,8 @@ const CASES: &[Case] = &[
     (HELPED, LIST, MANY, "a\t\t\0", "a", ""),
 ];
 
-/// Types a character into a session. Returns whether it comes in at the cursor, as where commands are read.
+/// Types a character into a session. Returns whether it comes in at the cursor, as where commands
+/// are read.
 fn types_on(alloc: Global, session: &mut Session, bindings: &Bindings) -> Result<bool> {
     let line = marked(alloc, session)?;
     let Some((before, behind)) = line.as_str().split_once(CURSOR) else {
@@ -107,9 +110,10 @@ fn has_lines(one: &Shelf, other: &Shelf) -> Result<bool> {
     Ok(has)
 }
 
-/// What is wrong about what a failure left: a session with the error of the one that fails or of refused memory, after a key;
-/// and one in which nothing failed, with its line from before that key. Of what was typed nothing is lost but that key: one that was
-/// not taken is taken at the next call. Nothing is wrong where this is empty.
+/// What is wrong about what a failure left: a session with the error of the one that fails or of
+/// refused memory, after a key; and one in which nothing failed, with its line from before that
+/// key. Of what was typed nothing is lost but that key: one that was not taken is taken at the next
+/// call. Nothing is wrong where this is empty.
 fn wrong(
     alloc: Global,
     (_, _, _, _, start, list): &Case,
@@ -148,7 +152,8 @@ fn wrong(
     })
 }
 
-/// Does what a case says in two sessions, key by key. Returns None where nothing failed, and else what is wrong then.
+/// Does what a case says in two sessions, key by key. Returns None where nothing failed, and else
+/// what is wrong then.
 fn typed(
     alloc: Global,
     case: &Case,
@@ -181,7 +186,8 @@ fn typed(
     )?))
 }
 
-/// Does what a case says with one that fails. Returns None where nothing failed, and else what is wrong then.
+/// Does what a case says with one that fails. Returns None where nothing failed, and else what is
+/// wrong then.
 fn failed(alloc: Global, case: &Case, failing: Failing) -> Result<Option<&'static str>> {
     let bindings = bindings(alloc)?;
     let mut session = new_session(alloc, case.1, case.2, failing)?;
@@ -192,8 +198,8 @@ fn failed(alloc: Global, case: &Case, failing: Failing) -> Result<Option<&'stati
 /// How many calls past the last one are tried.
 const PAST: usize = 10;
 
-/// Fails each call of one who is asked in a case; the first is made. What is left is right; and each failure is reported, so after a
-/// call that is not made none is.
+/// Fails each call of one who is asked in a case; the first is made. What is left is right; and
+/// each failure is reported, so after a call that is not made none is.
 fn each_fails(rt: &impl Abort, alloc: Global, case: &Case, name: &'static str) {
     let mut past: usize = 0;
     for call in 1..200 {
@@ -221,7 +227,8 @@ fn goes_on_where_a_party_fails(rt: HostRuntime) {
     }
 }
 
-/// Run with any one allocation refused, this passes: what is left is right, or the refusal came before the line began.
+/// Run with any one allocation refused, this passes: what is left is right, or the refusal came
+/// before the line began.
 #[test]
 fn goes_on_where_memory_runs_out(rt: HostRuntime) {
     for (number, case) in CASES.iter().enumerate() {

@@ -1,6 +1,7 @@
-//! The tests of `line_term`: sequences of terminals, texts and pasted texts by their bytes, bytes that are made from a number, and what
-//! a terminal asks of its output; and of `line_session`: lines by the bytes that are typed, whole and in pieces, completions and searches,
-//! and what is left where one of those who are asked fails.
+//! The tests of `line_term`: sequences of terminals, texts and pasted texts by their bytes, bytes
+//! that are made from a number, and what a terminal asks of its output; and of `line_session`:
+//! lines by the bytes that are typed, whole and in pieces, completions and searches, and what is
+//! left where one of those who are asked fails.
 #![tactic(auto)]
 
 #[cfg(test)]

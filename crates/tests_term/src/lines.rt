@@ -79,7 +79,8 @@ const CASES: &[Case] = &[
         "⏎axyb",
         "",
     ),
-    // after a quoted insert the next item comes in as it is: a key's character, if it has one, or a pasted text
+    // after a quoted insert the next item comes in as it is: a key's character, if it has one, or a
+    // pasted text
     (ADD, "old", "»¦a\x16\tb\x11\x01\r", "⏎a\tb\x01", ""),
     (ADD, "old", "»¦a\x16\rb\x16\x7f", "a\rb\x7f|", ""),
     (ADD, "old", "»¦a\x16\x1b¦…¦b", "a\x1bb|", ""),
@@ -119,8 +120,8 @@ fn gives_the_line_in_whatever_pieces(rt: HostRuntime) {
 /// A prompt in bold type.
 const STYLED: &str = "\x1b[1m> ";
 
-/// What each line comes to that is read of an input: `!` where the output fails, its text, or nothing where the person interrupts.
-/// Suspend stops none of them.
+/// What each line comes to that is read of an input: `!` where the output fails, its text, or
+/// nothing where the person interrupts. Suspend stops none of them.
 const LINES: &[&str] = &["!", "abc", "de", "hij", ""];
 
 /// They are read after a plain prompt where no write fails, and after a styled one where the first
@@ -153,8 +154,8 @@ fn reads_lines_of_an_input(rt: HostRuntime) {
 /// Prompts, plain and styled, and how the line `abc` is shown after each.
 const PROMPTS: &[(&str, &str)] = &[("> ", "> abc"), (STYLED, "\x1b[1m> \x1b[0m\x0fabc")];
 
-/// A line is drawn whole on its first output; what is typed then, on one that was emptied; and the line anew on another one, which is
-/// given back after it.
+/// A line is drawn whole on its first output; what is typed then, on one that was emptied; and the
+/// line anew on another one, which is given back after it.
 #[test]
 fn draws_anew_on_another_output(rt: HostRuntime) {
     let bindings = bindings(rt.alloc()).expect(&rt, "bindings");

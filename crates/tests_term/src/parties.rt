@@ -20,7 +20,8 @@ pub(crate) fn failing_call((name, call): Failing, of: &str) -> u64 {
     if name == of { call } else { 0 }
 }
 
-/// A part of a helper: a completer of words, or a highlighter without colors. One of its calls can fail.
+/// A part of a helper: a completer of words, or a highlighter without colors. One of its calls can
+/// fail.
 pub(crate) struct Party {
     pub(crate) words: Words,
     calls: Countdown,

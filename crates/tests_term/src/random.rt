@@ -1,5 +1,5 @@
-//! Bytes that are made from a number: in one piece they come to what they come to one by one, and no character is typed that is not
-//! in them as text.
+//! Bytes that are made from a number: in one piece they come to what they come to one by one, and
+//! no character is typed that is not in them as text.
 
 use crate::by_bytes::{EACH, feeds};
 use crate::holds;
@@ -9,7 +9,8 @@ use line_screen::KeyQueue;
 use line_term::Decoder;
 use std::alloc::Global;
 
-/// A number below this one. Numbers look mixed, each made of the last one by a linear congruence, of which the upper bits are taken.
+/// A number below this one. Numbers look mixed, each made of the last one by a linear congruence,
+/// of which the upper bits are taken.
 fn below(last: &mut usize, limit: usize) -> usize {
     *last = last.wrapping_mul(1_664_525).wrapping_add(1_013_904_223);
     (*last >> 24).checked_rem(limit).unwrap_or(0)
@@ -68,8 +69,8 @@ const INSIDE: &[&str] = &[
     "\u{c3}\u{a9}",
 ];
 
-/// The number that the first bytes are made from, what begins them, how many parts they have less than, the parts, what
-/// ends them, and whether they stand for something.
+/// The number that the first bytes are made from, what begins them, how many parts they have less
+/// than, the parts, what ends them, and whether they stand for something.
 type Making = (
     usize,
     &'static str,
@@ -95,8 +96,8 @@ fn made(alloc: Global, last: &mut usize, making: &Making) -> Result<String> {
     Ok(bytes)
 }
 
-/// Whether bytes come to the same in one piece and one by one, and to nothing where they are not to stand for
-/// something.
+/// Whether bytes come to the same in one piece and one by one, and to nothing where they are not to
+/// stand for something.
 fn come_to_the_same(alloc: Global, bytes: &str, can_stand: bool) -> bool {
     let (mut whole, mut single) = (Decoder::new(alloc), Decoder::new(alloc));
     let (mut of_whole, mut of_single) = (KeyQueue::new(alloc), KeyQueue::new(alloc));

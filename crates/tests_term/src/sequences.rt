@@ -1,5 +1,6 @@
-//! The sequences that terminals send, by what they come to: those of the keys that terminfo has for each terminal, and those of other
-//! protocols; each whole, cut at each place, and the keys after an Esc. Texts, too.
+//! The sequences that terminals send, by what they come to: those of the keys that terminfo has for
+//! each terminal, and those of other protocols; each whole, cut at each place, and the keys after
+//! an Esc. Texts, too.
 
 use crate::by_bytes::first_wrong;
 use crate::holds;

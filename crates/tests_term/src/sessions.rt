@@ -22,8 +22,8 @@ type Helper = Parts<Party, Guide, Party, Guide>;
 /// A session in which those who are asked can fail.
 pub(crate) type Session = Editor<Counted, Helper, Shelf>;
 
-/// What is tried, the words or the lines of the history, what is typed, what comes of it, and what is written to the terminal on the
-/// way.
+/// What is tried, the words or the lines of the history, what is typed, what comes of it, and what
+/// is written to the terminal on the way.
 pub(crate) type Case = (
     &'static str,
     &'static str,
@@ -74,7 +74,8 @@ pub(crate) const PAUSE: &str = "…";
 /// The bytes end.
 const END: &str = "■";
 
-// What comes of it begins so, unless the line goes on: then it is the line alone, or nothing where none goes on.
+// What comes of it begins so, unless the line goes on: then it is the line alone, or nothing where
+// none goes on.
 /// The line was submitted.
 const SUBMITTED: &str = "⏎";
 /// The input ended.

@@ -12,8 +12,8 @@ use std::alloc::Global;
 use std::io::{self, ErrorKind, Write};
 use tests_parties::fault::{Fault, GONE};
 
-/// An output that counts what it is asked for. It takes at most so many bytes at once. Its write of this number, from 1 on, fails; or
-/// each flush, where the number is the greatest.
+/// An output that counts what it is asked for. It takes at most so many bytes at once. Its write of
+/// this number, from 1 on, fails; or each flush, where the number is the greatest.
 pub(crate) struct Counted {
     bytes: Vec<u8>,
     /// How often it was asked to write.
@@ -38,8 +38,8 @@ impl Drop for Counted {
 }
 
 impl Counted {
-    /// An output that takes so many bytes at once, and whose write of this number fails by this fault. It has memory for what a
-    /// session writes.
+    /// An output that takes so many bytes at once, and whose write of this number fails by this
+    /// fault. It has memory for what a session writes.
     pub(crate) fn new(alloc: Global, most: usize, failing: u64, fault: Fault) -> Result<Counted> {
         Ok(Counted {
             bytes: Vec::with_capacity(alloc, 10_000)?,
@@ -79,7 +79,8 @@ impl Write for Counted {
 
 type Terminal = Ansi<Counted, KeyQueue>;
 
-/// Draws a line in full after a prompt with these styles, with a hint behind it. The cursor is at the start, or at the end.
+/// Draws a line in full after a prompt with these styles, with a hint behind it. The cursor is at
+/// the start, or at the end.
 fn redraw<H: SteadyHighlighter>(
     alloc: Global,
     terminal: &mut Terminal,
@@ -140,7 +141,8 @@ const CALLS: &[Call] = &[
     ("resize, beep", "", "\x07"),
 ];
 
-/// Resizes a terminal of ten columns. Returns whether it had them, and has the columns and rows of the resize then.
+/// Resizes a terminal of ten columns. Returns whether it had them, and has the columns and rows of
+/// the resize then.
 fn is_resized(terminal: &mut Terminal) -> bool {
     let had_ten = terminal.get_columns() == 10 && terminal.get_rows() == 24;
     terminal.resize(3, 7);
@@ -187,14 +189,16 @@ fn call(
     }
 }
 
-/// How a call is asked: how many bytes an output takes at once, who fails, and by an error of which kind, if it is the output.
+/// How a call is asked: how many bytes an output takes at once, who fails, and by an error of which
+/// kind, if it is the output.
 type How = (usize, Failing, ErrorKind);
 
-/// What comes of a call: whether it is well, how often the output is asked to write, and how many bytes it takes.
+/// What comes of a call: whether it is well, how often the output is asked to write, and how many
+/// bytes it takes.
 type Comes = (bool, u64, usize);
 
-/// Whether that comes of a call, on a terminal of ten columns: where it is well, the bytes are flushed once, and else it fails by that
-/// error and nothing is flushed.
+/// Whether that comes of a call, on a terminal of ten columns: where it is well, the bytes are
+/// flushed once, and else it fails by that error and nothing is flushed.
 fn does(alloc: Global, asked: Call, how: How, comes: Comes) -> bool {
     let (most, failing, kind) = how;
     let (is_well, writes, taken) = comes;
@@ -216,9 +220,10 @@ fn does(alloc: Global, asked: Call, how: How, comes: Comes) -> bool {
     is_so && is_asked && out.bytes.as_slice() == asked.2.as_bytes().get(..taken).unwrap_or(b"")
 }
 
-/// Each call writes in one piece and flushes, an interrupted write is tried again, and a flush can fail; where bytes are taken one by
-/// one, the write behind so many of them fails, and there is none behind all of them. So can each call of a highlighter fail, which is
-/// asked for the prompt, the line and the hint.
+/// Each call writes in one piece and flushes, an interrupted write is tried again, and a flush can
+/// fail; where bytes are taken one by one, the write behind so many of them fails, and there is
+/// none behind all of them. So can each call of a highlighter fail, which is asked for the prompt,
+/// the line and the hint.
 #[test]
 fn writes_and_flushes_or_hands_on_the_failure(rt: HostRuntime) {
     let kind = ErrorKind::PermissionDenied;

@@ -12,8 +12,8 @@ use tests_parties::advisor::Advisor;
 use tests_steps::calls::Editor;
 use tests_steps::recorder::Recorder;
 
-/// How many lines the history holds. What is done once, what so many times, and what once after it; and the length of the
-/// line, the cursor and the place that are left.
+/// How many lines the history holds. What is done once, what so many times, and what once after it;
+/// and the length of the line, the cursor and the place that are left.
 type Case = (
     u64,
     &'static str,
@@ -23,8 +23,8 @@ type Case = (
     (usize, usize, usize),
 );
 
-/// Does the steps of a case, none of which fails: those of the first text once, the next so many times, the last once.
-/// Then the line has the length, the cursor and the place that are wanted.
+/// Does the steps of a case, none of which fails: those of the first text once, the next so many
+/// times, the last once. Then the line has the length, the cursor and the place that are wanted.
 fn lasts(rt: &impl Abort, alloc: Global, case: &Case) {
     let history = shelved(rt, alloc, case.0);
     let prompts = prompts(alloc).expect(rt, "no fault");
@@ -72,7 +72,8 @@ fn in_round(case: &Case, round: u64) -> &'static str {
     }
 }
 
-/// One step after the other and one kill; and walks through a history of 1,100 lines of eight bytes.
+/// One step after the other and one kill; and walks through a history of 1,100 lines of eight
+/// bytes.
 const CASES: &[Case] = &[
     (
         0,

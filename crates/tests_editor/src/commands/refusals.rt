@@ -1,5 +1,5 @@
-//! What a command leaves where a growth is refused. Run with any one allocation refused, each test passes: it looks at
-//! what is left, or the command was not reached.
+//! What a command leaves where a growth is refused. Run with any one allocation refused, each test
+//! passes: it looks at what is left, or the command was not reached.
 
 use super::{at, does, edits, prompts};
 use crate::holds;
@@ -15,8 +15,8 @@ use tests_parties::shelf::Shelf;
 use tests_steps::calls::{Editor, executed, starts};
 use tests_steps::recorder::Recorder;
 
-/// What the editor stands on: nothing, a history of the line `one`, a hint, a helper that takes no line, or a line to begin
-/// with and its cursor.
+/// What the editor stands on: nothing, a history of the line `one`, a hint, a helper that takes no
+/// line, or a line to begin with and its cursor.
 enum With {
     Nothing,
     History,
@@ -27,7 +27,8 @@ enum With {
 
 use With::*;
 
-/// That, what is typed with a bar at the cursor, commands and calls, and the line that they leave with ample memory.
+/// That, what is typed with a bar at the cursor, commands and calls, and the line that they leave
+/// with ample memory.
 type Case = (With, &'static str, &'static str, &'static str);
 
 /// Does the steps, which leave the history as it was.
@@ -96,8 +97,8 @@ fn leaves(rt: &impl Abort, alloc: Global, case: &Case, state: &mut Editor<'_, '_
     }
 }
 
-/// The line is text with its cursor on a boundary, and so it is when all changes are taken back, be it all that were
-/// made, or none where they were dropped.
+/// The line is text with its cursor on a boundary, and so it is when all changes are taken back, be
+/// it all that were made, or none where they were dropped.
 fn settled(
     rt: &impl Abort,
     alloc: Global,
@@ -121,8 +122,8 @@ fn length(rt: &impl Abort, state: &Editor<'_, '_>) -> usize {
     before.len().saturating_add(behind.len())
 }
 
-/// Edits, commands of other kinds, moves, the calls of the state that no command makes as they stand, and lines to begin
-/// with.
+/// Edits, commands of other kinds, moves, the calls of the state that no command makes as they
+/// stand, and lines to begin with.
 const CASES: &[Case] = &[
     (Nothing, "日|本", "SelfInsert(9, 'é')", "日ééééééééé|本"),
     (Nothing, "日|本", "Newline", "日\n|本"),

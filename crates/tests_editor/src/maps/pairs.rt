@@ -69,7 +69,8 @@ fn binds(
     number(old.as_ref())
 }
 
-/// Both answer the same of an event. One time in three they give it a number, and answer the one that it had.
+/// Both answer the same of an event. One time in three they give it a number, and answer the one
+/// that it had.
 fn answer(
     rt: &impl Abort,
     alloc: Global,

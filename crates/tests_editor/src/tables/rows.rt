@@ -4,7 +4,8 @@ use super::Line;
 use super::Way::{self, Alone, Listed, Search, Second};
 use line_keys::keys::{KeyCode as K, Modifiers as M};
 
-/// How a key is tried, the key, and what it means for a count and for one with a minus sign, with # for the number.
+/// How a key is tried, the key, and what it means for a count and for one with a minus sign, with #
+/// for the number.
 pub(super) type Row = (Way, K, M, &'static str, &'static str);
 
 /// Lines, and the rows that hold on each.

@@ -61,12 +61,13 @@ impl Completer for Stubborn {
     }
 }
 
-/// A line and its cursor, a text that is elected to stand at its start, and the line, its cursor and how many changes
-/// there are then.
+/// A line and its cursor, a text that is elected to stand at its start, and the line, its cursor
+/// and how many changes there are then.
 type Put<'t> = (&'t str, usize, &'t str, (&'t str, usize, usize));
 
-/// Whether the line is completed, beside a history of which each call fails, and then takes the text, or each of the
-/// two fails by its fault, if it has one. An update that fails leaves the line as it was.
+/// Whether the line is completed, beside a history of which each call fails, and then takes the
+/// text, or each of the two fails by its fault, if it has one. An update that fails leaves the line
+/// as it was.
 fn asks<C: Completer>(
     rt: &impl Abort,
     alloc: Global,

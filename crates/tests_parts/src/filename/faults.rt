@@ -1,12 +1,13 @@
-//! Lines that are completed by a lister that fails in one call or for one folder: the error is handed on, and no other call
-//! is made.
+//! Lines that are completed by a lister that fails in one call or for one folder: the error is
+//! handed on, and no other call is made.
 
 use super::{Boxed, Broken, ByTrait, Completed, NAMES, Sorted, Unsorted, Way};
 
 /// Each call for names.
 pub(crate) const EACH_WAY: &[Way] = &[Sorted, Unsorted, ByTrait, Boxed];
 
-/// The lister fails when it is first asked, when it is asked again, for its folder, or for any other.
+/// The lister fails when it is first asked, when it is asked again, for its folder, or for any
+/// other.
 pub(crate) const BREAKS: &[Broken] = &[Broken::Call(1), Broken::Call(2), Broken::At, Broken::ButAt];
 
 /// One candidate at most.

@@ -1,5 +1,5 @@
-//! A history that fails in one look-up: the error is handed on, and no other look-up is made, also none whose answer is
-//! dropped.
+//! A history that fails in one look-up: the error is handed on, and no other look-up is made, also
+//! none whose answer is dropped.
 
 use super::{Hinted, LINES, hints};
 use line_parts::{History, HistoryHinter, SearchDirection};
@@ -8,8 +8,9 @@ use std::process::Abort;
 use tests_parties::fault::Fault;
 use tests_parties::shelf::{Call, Failing, Shelf};
 
-/// The lines of a history and the index in it; which look-up fails: the one of this number, which is then the first after
-/// the hint, and those that are named; the line and the hint; and whether the fault comes instead.
+/// The lines of a history and the index in it; which look-up fails: the one of this number, which
+/// is then the first after the hint, and those that are named; the line and the hint; and whether
+/// the fault comes instead.
 pub(crate) type Case = (
     (&'static str, usize),
     (u64, Option<Failing>),

@@ -35,8 +35,9 @@ fn answered<H: Helper, S: History>(
     }
 }
 
-/// Whether an editor gets this answer of a helper, or of none, about a text, with the cursor at its end; or the fault where
-/// there is one, and then the answer. No history is asked, so it does not matter that this one fails in each call.
+/// Whether an editor gets this answer of a helper, or of none, about a text, with the cursor at its
+/// end; or the fault where there is one, and then the answer. No history is asked, so it does not
+/// matter that this one fails in each call.
 pub(super) fn answers<H: Helper>(
     rt: &impl Abort,
     alloc: Global,
@@ -59,8 +60,8 @@ pub(super) fn answers<H: Helper>(
     again && comes.expect(rt, "no fault")
 }
 
-/// The hint and the validation result of a helper, the number of its answer that fails, the right answer, and whether
-/// there is the fault instead.
+/// The hint and the validation result of a helper, the number of its answer that fails, the right
+/// answer, and whether there is the fault instead.
 pub(super) type Case = ((Option<&'static str>, Verdict), u64, Answer, bool);
 
 /// Whether the answer of a row is handed on, or the fault where it is to come.
