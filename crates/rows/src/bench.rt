@@ -1,4 +1,5 @@
-//! An editor on a bench: a helper, a history and others that write down what they are asked, and can fail.
+//! An editor on a bench: a helper, a history and others that write down what they are asked, and
+//! can fail.
 
 use crate::report::{Row, Seen, looks_at};
 use crate::setup::{Failing, Setup, keys_named};
@@ -27,7 +28,8 @@ use tests_steps::typist::Typist;
 /// The key x.
 const X: &[KeyEvent] = &[KeyEvent(KeyCode::Char('x'), Modifiers::NONE)];
 
-/// What lies on the bench beside the editor: its reader, its kill ring, its settings, and what was seen.
+/// What lies on the bench beside the editor: its reader, its kill ring, its settings, and what was
+/// seen.
 pub struct Bench {
     typist: Typist,
     kills: KillRing,
@@ -109,8 +111,8 @@ impl Bench {
         }
     }
 
-    /// Goes through the lines of a row, and reads what they type where none of them does. Looks at what is left and, after
-    /// a fault, at whether the line recovers.
+    /// Goes through the lines of a row, and reads what they type where none of them does. Looks at
+    /// what is left and, after a fault, at whether the line recovers.
     fn goes_through(
         &mut self,
         alloc: Global,
@@ -142,7 +144,8 @@ impl Bench {
         self.looks(alloc, state, &input)
     }
 
-    /// Takes a command that was read: writes it down, or else executes it. Returns how that ended, in a word.
+    /// Takes a command that was read: writes it down, or else executes it. Returns how that ended,
+    /// in a word.
     fn takes(
         &mut self,
         alloc: Global,
@@ -157,7 +160,8 @@ impl Bench {
         done(execute(command?, state, input, &mut self.kills, &self.config))
     }
 
-    /// A line of a row ended so; None where there is no such line: then its number is noted, and this returns false.
+    /// A line of a row ended so; None where there is no such line: then its number is noted, and
+    /// this returns false.
     fn ends(
         &mut self,
         alloc: Global,
@@ -192,8 +196,8 @@ impl Bench {
         Ok(())
     }
 
-    /// After a fault the cursor is on a boundary, and all changes can be taken back, which leaves the empty line, and it
-    /// can be drawn again. Returns whether that is so.
+    /// After a fault the cursor is on a boundary, and all changes can be taken back, which leaves
+    /// the empty line, and it can be drawn again. Returns whether that is so.
     fn recovers(
         &mut self,
         alloc: Global,
@@ -215,8 +219,9 @@ impl Bench {
         Ok(starts && state.line().is_empty())
     }
 
-    /// Reads what the lines of a row type as phrases, and then keys that are one phrase: cut anywhere they are none yet,
-    /// and they are read again whole. Sees the phrase's command, and what x stands for then.
+    /// Reads what the lines of a row type as phrases, and then keys that are one phrase: cut
+    /// anywhere they are none yet, and they are read again whole. Sees the phrase's command, and
+    /// what x stands for then.
     fn reads(
         &mut self,
         alloc: Global,
@@ -242,7 +247,8 @@ impl Bench {
         looks_at(alloc, state, &input, &self.typist, &mut self.seen)
     }
 
-    /// Gives the keys of a row one by one, those of a phrase so far again with each new one. Looks at what is left.
+    /// Gives the keys of a row one by one, those of a phrase so far again with each new one. Looks
+    /// at what is left.
     fn one_by_one(
         &mut self,
         alloc: Global,
@@ -406,8 +412,8 @@ fn keys_of(alloc: Global, items: &[(usize, &str)]) -> Result<Option<Vec<KeyEvent
     Ok(Some(keys))
 }
 
-/// The keys that the lines of a row type and then those of a phrase, after the number of the first ones. None where a line
-/// or a name is of another kind.
+/// The keys that the lines of a row type and then those of a phrase, after the number of the first
+/// ones. None where a line or a name is of another kind.
 fn phrase_of(alloc: Global, row: &Row<'_>, names: &str) -> Result<Option<(usize, Vec<KeyEvent>)>> {
     let Some(mut keys) = keys_of(alloc, row.items.as_slice())? else {
         return Ok(None);
@@ -420,8 +426,8 @@ fn phrase_of(alloc: Global, row: &Row<'_>, names: &str) -> Result<Option<(usize,
     Ok(Some((before, keys)))
 }
 
-/// The keys that are pressed before the read of this number: at first all of those before the phrase, then none until
-/// these are read, then more and more of the phrase, and x.
+/// The keys that are pressed before the read of this number: at first all of those before the
+/// phrase, then none until these are read, then more and more of the phrase, and x.
 fn pressed(keys: &[KeyEvent], before: usize, count: usize) -> &[KeyEvent] {
     let (start, end) = match count {
         count if count >= before => (before, count.saturating_add(1)),

@@ -40,7 +40,8 @@ log CALL             the next call of the screen that is wanted
 The README of this program says more of each, and has the values.
 ";
 
-/// How the reading of a file ended: with so many cases, of which so many differ; at a bad line; or with the help.
+/// How the reading of a file ended: with so many cases, of which so many differ; at a bad line; or
+/// with the help.
 #[derive(Clone, Copy)]
 enum Ending {
     Rows(usize, usize),
@@ -64,10 +65,11 @@ impl From<ReadlineError> for Stop {
     }
 }
 
-/// Reads a file of cases, and prints each that differs and how many there are; or the number of its first bad line.
+/// Reads a file of cases, and prints each that differs and how many there are; or the number of its
+/// first bad line.
 ///
-/// Returns the status to end with: 0 where none differs, 1 where one does, 3 after a fault of memory or of a stream, and
-/// 4 where a line is bad.
+/// Returns the status to end with: 0 where none differs, 1 where one does, 3 after a fault of
+/// memory or of a stream, and 4 where a line is bad.
 pub fn play<R: Read + Drop, O: Write>(alloc: Global, input: R, out: &mut O) -> u8 {
     match play_file(alloc, input, out) {
         Ok(Ending::Rows(_, 0) | Ending::Help) => 0,
@@ -126,8 +128,8 @@ fn end<O: Write>(ending: &Ending, out: &mut O) -> Result<()> {
     Ok(())
 }
 
-/// What the lines of a file say: the name, the settings and the ways of the cases that follow, and the lines of the case
-/// that is begun.
+/// What the lines of a file say: the name, the settings and the ways of the cases that follow, and
+/// the lines of the case that is begun.
 struct Begun<'t> {
     name: &'t str,
     settings: Vec<(usize, &'t str)>,
@@ -340,8 +342,8 @@ fn adds_lines<'t>(row: &mut Row<'t>, lines: &[(usize, &str)], text: &'t str) -> 
     Ok(())
 }
 
-/// Adds a line, in which the keys of the first count of a way stand for `@`, those of the second for `&`, and its number
-/// for `#`. A count that is not typed is written as `-`.
+/// Adds a line, in which the keys of the first count of a way stand for `@`, those of the second
+/// for `&`, and its number for `#`. A count that is not typed is written as `-`.
 fn fill(text: &mut String, line: &str, way: &str) -> Result<()> {
     let mut parts = way.split(' ');
     let first = parts.next().unwrap_or("-");

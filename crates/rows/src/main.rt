@@ -1,4 +1,5 @@
-//! Reads cases of keys from standard input, a name, a script and what is wanted of it, and prints each that differs.
+//! Reads cases of keys from standard input, a name, a script and what is wanted of it, and prints
+//! each that differs.
 #![tactic(auto)]
 
 mod bench;

@@ -11,9 +11,9 @@ use std::io::{ErrorKind, Write};
 use tests_steps::calls::{Editor, letters};
 use tests_steps::typist::Typist;
 
-/// A case: its name and the number of the line that ends it, what is done, each line with its number, the keys that are
-/// read as one phrase, whether the lines type keys and do nothing else, the calls of the renderer that are wanted, and what
-/// else is.
+/// A case: its name and the number of the line that ends it, what is done, each line with its
+/// number, the keys that are read as one phrase, whether the lines type keys and do nothing else,
+/// the calls of the renderer that are wanted, and what else is.
 pub struct Row<'t> {
     pub name: &'t str,
     pub number: usize,
@@ -138,8 +138,8 @@ impl Seen {
         Ok("proceeds")
     }
 
-    /// A read ended so: with `left` 0 it was one of the key x after the phrase, with 1 of the whole phrase, and with more of a
-    /// phrase that is cut short, which is to end for want of keys.
+    /// A read ended so: with `left` 0 it was one of the key x after the phrase, with 1 of the whole
+    /// phrase, and with more of a phrase that is cut short, which is to end for want of keys.
     pub fn reads(&mut self, alloc: Global, left: usize, outcome: Result<Cmd>) -> Result<()> {
         match left {
             0 => self.stands_for(alloc, outcome),
@@ -237,7 +237,8 @@ fn looks_at_rest(
     Ok(())
 }
 
-/// Writes down how the last step ended, the line, with a mark at its cursor too, and whether it has one character alone.
+/// Writes down how the last step ended, the line, with a mark at its cursor too, and whether it has
+/// one character alone.
 fn looks_at_line(state: &Editor<'_, '_>, outcome: &'static str, out: &mut Vec<u8>) -> Result<()> {
     let line = state.line();
     let (before, behind) = line.split_at_checked(state.pos()).unwrap_or(("?", "?"));
@@ -259,8 +260,8 @@ fn looks_at_line(state: &Editor<'_, '_>, outcome: &'static str, out: &mut Vec<u8
     Ok(())
 }
 
-/// Writes down the numbers of the cursor, the line and the history, how often the line was drawn in full, and what is
-/// kept of the layout.
+/// Writes down the numbers of the cursor, the line and the history, how often the line was drawn in
+/// full, and what is kept of the layout.
 fn looks_at_layout(state: &Editor<'_, '_>, out: &mut Vec<u8>) -> Result<()> {
     let (pos, len, place) = (state.pos(), state.line().len(), state.place());
     let redraws = state.out().redraws();
@@ -284,8 +285,8 @@ fn looks_at_layout(state: &Editor<'_, '_>, out: &mut Vec<u8>) -> Result<()> {
     Ok(())
 }
 
-/// Writes down whether there is a highlighter, whose prompt stands there, whether the cursor is at the end of the line and
-/// of what is drawn, whether a text trails the line, and the hint.
+/// Writes down whether there is a highlighter, whose prompt stands there, whether the cursor is at
+/// the end of the line and of what is drawn, whether a text trails the line, and the hint.
 fn looks_at_hint(state: &Editor<'_, '_>, out: &mut Vec<u8>) -> Result<()> {
     let (is_lit, is_default) = (state.highlighter().is_some(), state.is_default_prompt());
     let (has_hint, is_at_end) = (state.has_hint(), state.is_cursor_at_end());
@@ -310,7 +311,8 @@ fn looks_at_hint(state: &Editor<'_, '_>, out: &mut Vec<u8>) -> Result<()> {
     Ok(())
 }
 
-/// Writes down the calls of the renderer, but for those before, and the flags that the reader was handed.
+/// Writes down the calls of the renderer, but for those before, and the flags that the reader was
+/// handed.
 fn looks_at_calls(
     alloc: Global,
     log: &str,
@@ -332,8 +334,8 @@ fn looks_at_calls(
     Ok(())
 }
 
-/// Compares what a row wants with what was seen, a line for each value, and prints what differs. Returns whether anything
-/// does.
+/// Compares what a row wants with what was seen, a line for each value, and prints what differs.
+/// Returns whether anything does.
 pub fn differs<O: Write>(row: &Row<'_>, seen: &str, out: &mut O) -> Result<bool> {
     let mut before = false;
     for field in row.wanted.split(" | ") {
@@ -376,7 +378,8 @@ pub fn first_word(text: &str) -> &str {
     text.split(' ').next().unwrap_or("")
 }
 
-/// The first call of the renderer that is another than a row names, where it names any: what is wanted, and what was called.
+/// The first call of the renderer that is another than a row names, where it names any: what is
+/// wanted, and what was called.
 fn log_difference<'w, 's>(log: &[&'w str], seen: &'s str) -> Option<(&'w str, &'s str)> {
     if log.is_empty() {
         return None;

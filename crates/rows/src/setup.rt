@@ -14,7 +14,8 @@ use tests_parties::advisor::{Tip, Verdict};
 use tests_steps::source::Source;
 use tests_steps::watcher::Watcher;
 
-/// Which call of one of those who are asked fails, from 1 on, or 0 for none, and whether it fails by an error of its own.
+/// Which call of one of those who are asked fails, from 1 on, or 0 for none, and whether it fails
+/// by an error of its own.
 #[derive(Clone, Copy)]
 pub struct Failing {
     pub call: u64,
@@ -30,7 +31,8 @@ const NEVER: Failing = Failing {
 pub struct Setup<'t> {
     /// The settings that scripts have.
     pub parsed: Parsed,
-    /// The columns of a screen that writes down what it is asked for, each byte of a text one column.
+    /// The columns of a screen that writes down what it is asked for, each byte of a text one
+    /// column.
     pub screen: Option<Unit>,
     /// The form of the prompt with styles.
     pub styled: Option<&'t str>,
@@ -117,7 +119,8 @@ impl<'t> Setup<'t> {
         }
     }
 
-    /// Binds the keys of these names to what stands after them. False where the text is of no such form.
+    /// Binds the keys of these names to what stands after them. False where the text is of no such
+    /// form.
     fn binds(&mut self, alloc: Global, text: &str) -> Result<bool> {
         let Some((names, target)) = text.split_once(" = ") else {
             return Ok(false);
@@ -132,7 +135,8 @@ impl<'t> Setup<'t> {
         Ok(true)
     }
 
-    /// Switches on or off what the setting of this name asks for. False where there is no such setting.
+    /// Switches on or off what the setting of this name asks for. False where there is no such
+    /// setting.
     fn switch(&mut self, name: &str) -> bool {
         match name {
             "colors" => self.colors = true,
@@ -247,7 +251,8 @@ fn target_named(alloc: Global, text: &str) -> Result<Option<Target>> {
     })
 }
 
-/// Sets a limit of the history, or whether it keeps a line that is the same as the one before it. False where it is neither.
+/// Sets a limit of the history, or whether it keeps a line that is the same as the one before it.
+/// False where it is neither.
 fn set_history(parsed: &mut Parsed, name: &str, number: u16) -> Result<bool> {
     match name {
         "lines" => parsed.history.set_max_len(usize::from(number))?,
@@ -264,7 +269,8 @@ fn lasting(alloc: Global, text: &str) -> Result<&'static str> {
     Ok(str::from_utf8(bytes.leak()).unwrap_or(""))
 }
 
-/// A hint that displays a text, and completes the line with it; with another one after ` -> `; or with none after ` !`.
+/// A hint that displays a text, and completes the line with it; with another one after ` -> `; or
+/// with none after ` !`.
 fn tip(text: &'static str) -> Tip {
     if let Some((shown, completion)) = text.split_once(" -> ") {
         return Tip(shown, Some(completion));
@@ -324,7 +330,8 @@ fn watcher(source: &mut Source<'_>) -> Option<Watcher> {
     }
 }
 
-/// The handler that is handed so many keys, and shown a line of a length with the cursor at a place.
+/// The handler that is handed so many keys, and shown a line of a length with the cursor at a
+/// place.
 fn watcher_at(count: &str, len: &str, pos: &str, is_hinted: bool) -> Option<Watcher> {
     match (number(count), number(len), number(pos)) {
         (Some(count), Some(len), Some(pos)) => {

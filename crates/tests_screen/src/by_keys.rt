@@ -10,7 +10,8 @@ use line_screen::{KeyQueue, Plain};
 use std::alloc::Global;
 use std::io::Write;
 
-/// Edits a line key by key, and writes it to the terminal after each key. Returns the line once it is submitted.
+/// Edits a line key by key, and writes it to the terminal after each key. Returns the line once it
+/// is submitted.
 pub fn edit_by_keys<O: Write>(
     alloc: Global,
     typed: &[KeyEvent],

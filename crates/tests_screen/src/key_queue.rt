@@ -19,8 +19,9 @@ const ENTER: KeyEvent = KeyEvent(KeyCode::Enter, Modifiers::NONE);
 
 const PASTE_START: KeyEvent = KeyEvent(KeyCode::BracketedPasteStart, Modifiers::NONE);
 
-/// A call of the queue: what is handed over, a mark or the way back to it, a read of a key, a character, a pasted text
-/// or one that stands alone next, how many items there are and whether there is none, and what a key is bound to.
+/// A call of the queue: what is handed over, a mark or the way back to it, a read of a key, a
+/// character, a pasted text or one that stands alone next, how many items there are and whether
+/// there is none, and what a key is bound to.
 enum Call {
     Press(KeyEvent),
     Type(&'static str),

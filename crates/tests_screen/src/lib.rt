@@ -1,5 +1,5 @@
-//! The tests of `line_screen`, the programs of the documents that stand on it, scripts of `line_script`, and hostile
-//! use.
+//! The tests of `line_screen`, the programs of the documents that stand on it, scripts of
+//! `line_script`, and hostile use.
 #![tactic(auto)]
 
 #[cfg(test)]

@@ -49,8 +49,8 @@ const ENDS: &[(Unit, &str, Place, Place)] = &[
     (0, "a\nb", (0, 0), (2, 0)),
 ];
 
-/// The columns, a text after a prompt of two columns, the cursor in bytes and a text after the line; where the cursor
-/// is, and where what is shown ends.
+/// The columns, a text after a prompt of two columns, the cursor in bytes and a text after the
+/// line; where the cursor is, and where what is shown ends.
 type Layout = (
     Unit,
     &'static str,

@@ -7,8 +7,9 @@ use line_state::Renderer;
 use std::alloc::Global;
 use std::process::Abort;
 
-/// A call of the screen. A line is drawn in full, with the cursor at this place in it, after a prompt and before a
-/// hint. The last makes two calls that are as the trait has them: nothing is held back.
+/// A call of the screen. A line is drawn in full, with the cursor at this place in it, after a
+/// prompt and before a hint. The last makes two calls that are as the trait has them: nothing is
+/// held back.
 enum Call {
     Draw(&'static str, usize, &'static str, Option<&'static str>),
     Move(Unit, Unit),
@@ -50,7 +51,8 @@ fn called(rt: &impl Abort, alloc: Global, screen: &mut Plain<KeyQueue>, call: &C
     answer.expect(rt, "no fault");
 }
 
-/// What a screen shows: the text, with the row and the column of its cursor, the prompt and the hint.
+/// What a screen shows: the text, with the row and the column of its cursor, the prompt and the
+/// hint.
 type Shown = (
     &'static str,
     (Unit, Unit),

@@ -18,9 +18,9 @@ enum Fails {
     Output,
 }
 
-/// The streams of a script: which of them fails, and how many bytes they give or take at once; of what is printed,
-/// whether one write alone fails, or each from then on, and whether it can be flushed; and whether it can be said why a
-/// line is bad.
+/// The streams of a script: which of them fails, and how many bytes they give or take at once; of
+/// what is printed, whether one write alone fails, or each from then on, and whether it can be
+/// flushed; and whether it can be said why a line is bad.
 #[derive(Clone, Copy)]
 struct Streams {
     fails: Fails,
@@ -137,8 +137,8 @@ impl Write for Output {
     }
 }
 
-/// The streams of a script, the script, what is printed where they do not fail, what is said of a bad line, and the
-/// status then.
+/// The streams of a script, the script, what is printed where they do not fail, what is said of a
+/// bad line, and the status then.
 type Case = (
     &'static [Streams],
     &'static str,
@@ -200,7 +200,8 @@ const CASES: &[Case] = &[
         "",
         1,
     ),
-    // the ring has 60 slots: the 61st kill takes the first one's place, and the 60th step back comes to where it began
+    // the ring has 60 slots: the 61st kill takes the first one's place, and the 60th step back
+    // comes to where it began
     (
         WHOLE,
         "type 1\nkey C-u\ntype 2\nkey C-u\ntype 3\nkey C-u\ntype 4\nkey C-u\nkey C-y\nkey M-y\nkey M-y\n\
@@ -399,9 +400,9 @@ const CASES: &[Case] = &[
     (BROKEN, "key\n", "bad script line 1\n", "", 4),
 ];
 
-/// Plays a script, of whose streams one fails after so many bytes: what is printed is a beginning of the whole, and
-/// nothing where the script can't be read; the status is that of a fault, if one fails; and where it can be said why a
-/// line is bad, it is.
+/// Plays a script, of whose streams one fails after so many bytes: what is printed is a beginning
+/// of the whole, and nothing where the script can't be read; the status is that of a fault, if one
+/// fails; and where it can be said why a line is bad, it is.
 fn plays(rt: &impl Abort, alloc: Global, case: Case, streams: Streams, at: usize) {
     let (_, script, whole, said, status) = case;
     let (cut, failing) = match streams.fails {
@@ -503,9 +504,9 @@ const GOOD: &[(&str, &str, u8)] = &[
     ),
 ];
 
-/// Plays scripts without a bad line, and finds none. With ample memory a script prints its lines and ends with its
-/// status. Where an allocation is refused the status may be that of a fault, and what is printed is then a beginning of
-/// these lines or of those of a fault.
+/// Plays scripts without a bad line, and finds none. With ample memory a script prints its lines
+/// and ends with its status. Where an allocation is refused the status may be that of a fault, and
+/// what is printed is then a beginning of these lines or of those of a fault.
 #[test]
 fn ends_by_a_fault_alone_where_memory_is_refused(rt: HostRuntime) {
     for (script, whole, status) in GOOD {

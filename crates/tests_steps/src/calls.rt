@@ -33,7 +33,8 @@ pub fn proceeds(outcome: Result<()>) -> Result<&'static str> {
     Ok("proceeds")
 }
 
-/// Executes commands and makes calls of the state, each after the other. None where a text is neither.
+/// Executes commands and makes calls of the state, each after the other. None where a text is
+/// neither.
 pub fn executed(
     alloc: Global,
     state: &mut Editor<'_, '_>,
@@ -171,23 +172,28 @@ fn goes(state: &mut Editor<'_, '_>, movement: &Movement) -> Result<()> {
     }
 }
 
-/// The letters of the renderer's calls that are written down, but for so many at first: all is drawn, the screen cursor
-/// moves, a text is written, the rest of the row is cleared, the screen is cleared, the cursor goes to the first column,
-/// and it beeps. A call that no editor makes has a question mark.
+/// The letter of a call of the renderer: all is drawn, the screen cursor moves, a text is written,
+/// the rest of the row is cleared, the screen is cleared, the cursor goes to the first column, and
+/// it beeps. A call that no editor makes has a question mark.
+fn letter(call: &str) -> char {
+    let mut words = call.split(' ');
+    match (words.next(), words.next()) {
+        (Some("draw"), _) => 'd',
+        (Some("move"), Some("to")) => 'l',
+        (Some("move"), _) => 'm',
+        (Some("write"), _) => 'w',
+        (Some("clear"), Some("to")) => 'c',
+        (Some("clear"), Some("screen")) => 's',
+        (Some("beep"), _) => 'b',
+        _ => '?',
+    }
+}
+
+/// The letters of the renderer's calls that are written down, but for so many at first.
 pub fn letters(alloc: Global, log: &str, before: usize) -> Result<String> {
     let mut letters = String::new(alloc);
     for call in log.lines().skip(before) {
-        let mut words = call.split(' ');
-        letters.push(match (words.next(), words.next()) {
-            (Some("draw"), _) => 'd',
-            (Some("move"), Some("to")) => 'l',
-            (Some("move"), _) => 'm',
-            (Some("write"), _) => 'w',
-            (Some("clear"), Some("to")) => 'c',
-            (Some("clear"), Some("screen")) => 's',
-            (Some("beep"), _) => 'b',
-            _ => '?',
-        })?;
+        letters.push(letter(call))?;
     }
     Ok(letters)
 }

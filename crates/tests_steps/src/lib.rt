@@ -1,5 +1,5 @@
-//! What the tests of an editor stand on: commands and calls that are read from text and made, a handler, and a reader and
-//! a renderer that write down what they are handed.
+//! What the tests of an editor stand on: commands and calls that are read from text and made, a
+//! handler, and a reader and a renderer that write down what they are handed.
 #![tactic(auto)]
 
 pub mod calls;

@@ -23,11 +23,13 @@ pub const CUT: &str = "the screen is cut";
 /// A screen that can be given another size.
 pub struct Sizable;
 
-/// A screen that keeps its size: no call gives it another one, so an editor that draws on it has no `resized`.
+/// A screen that keeps its size: no call gives it another one, so an editor that draws on it has no
+/// `resized`.
 pub struct Fixed;
 
-/// A renderer: a screen of so many columns, each of one byte, that keeps a line of text for each call that can fail. It is
-/// `Resizable` where its screen is `Sizable`, and else a renderer with what `Renderer` asks for alone.
+/// A renderer: a screen of so many columns, each of one byte, that keeps a line of text for each
+/// call that can fail. It is `Resizable` where its screen is `Sizable`, and else a renderer with
+/// what `Renderer` asks for alone.
 pub struct Recorder<S = Sizable> {
     alloc: Global,
     columns: Unit,
@@ -72,7 +74,8 @@ impl<S> Drop for Recorder<S> {
 }
 
 impl<S> Recorder<S> {
-    /// An empty screen. Its call of the number `failing`, from 1 on, fails; none does where that is 0.
+    /// An empty screen. Its call of the number `failing`, from 1 on, fails; none does where that is
+    /// 0.
     pub fn new(alloc: Global, columns: Unit, colors: bool, failing: u64) -> Recorder<S>
         requires { 0 < columns }
     {
@@ -165,8 +168,8 @@ impl<S> Recorder<S> {
 /// A part of what is written down of a call.
 #[derive(Drop)]
 enum Part<'p> {
-    /// Where the prompt ends, where the cursor is and where what is shown ends, by row and column, and a `+` where something
-    /// is shown after the line; or that nothing was drawn.
+    /// Where the prompt ends, where the cursor is and where what is shown ends, by row and column,
+    /// and a `+` where something is shown after the line; or that nothing was drawn.
     Places(Option<&'p Layout>),
     /// The prompt, and where it has styles the form with them.
     Prompt(&'p str, &'p str),

@@ -1,4 +1,5 @@
-//! Commands, movements and the arguments of calls, read from text in the form that `Debug` writes them in.
+//! Commands, movements and the arguments of calls, read from text in the form that `Debug` writes
+//! them in.
 
 use line_buffer::{At, CharSearch, Movement, RepeatCount, Word};
 use line_config::Result;
@@ -6,7 +7,8 @@ use line_keys::cmd::{Anchor, Cmd};
 use line_parts::{Escapes, unescape_line};
 use std::alloc::Global;
 
-/// A text of which a part was read. Brackets, commas, colons and blanks only part what stands between them.
+/// A text of which a part was read. Brackets, commas, colons and blanks only part what stands
+/// between them.
 #[derive(Drop)]
 pub struct Source<'t> {
     rest: &'t str,
@@ -118,31 +120,24 @@ impl<'t> Source<'t> {
     /// The next movement.
     pub fn movement(&mut self) -> Option<Movement> {
         let name = self.word()?;
-        match name {
-            "WholeLine" => return Some(Movement::WholeLine),
-            "BeginningOfLine" => return Some(Movement::BeginningOfLine),
-            "EndOfLine" => return Some(Movement::EndOfLine),
-            "ViFirstPrint" => return Some(Movement::ViFirstPrint),
-            "WholeBuffer" => return Some(Movement::WholeBuffer),
-            "BeginningOfBuffer" => return Some(Movement::BeginningOfBuffer),
-            "EndOfBuffer" => return Some(Movement::EndOfBuffer),
-            _ => {}
+        match plain_movement(name) {
+            Some(movement) => Some(movement),
+            None => self.counted_movement(name),
         }
+    }
+
+    /// The movement of this name, which has a count.
+    fn counted_movement(&mut self, name: &str) -> Option<Movement> {
         let n = self.count()?;
-        let movement = match name {
-            "BackwardWord" => Movement::BackwardWord(n, self.named(WORDS)?),
+        match name {
+            "BackwardWord" => Some(Movement::BackwardWord(n, self.named(WORDS)?)),
             "ForwardWord" => {
                 let place = self.named(PLACES)?;
-                Movement::ForwardWord(n, place, self.named(WORDS)?)
+                Some(Movement::ForwardWord(n, place, self.named(WORDS)?))
             }
-            "ViCharSearch" => Movement::ViCharSearch(n, self.search()?),
-            "BackwardChar" => Movement::BackwardChar(n),
-            "ForwardChar" => Movement::ForwardChar(n),
-            "LineUp" => Movement::LineUp(n),
-            "LineDown" => Movement::LineDown(n),
-            _ => return None,
-        };
-        Some(movement)
+            "ViCharSearch" => Some(Movement::ViCharSearch(n, self.search()?)),
+            name => movement_by(name, n),
+        }
     }
 
     /// The next command. None where there is no such command.
@@ -188,28 +183,78 @@ impl<'t> Source<'t> {
 
     /// The command of this name, which has a movement, a count, a character, a side or a yes or no.
     fn command_without_text(&mut self, name: &str) -> Option<Cmd> {
-        Some(match name {
-            "Dedent" => Cmd::Dedent(self.movement()?),
-            "Indent" => Cmd::Indent(self.movement()?),
-            "Kill" => Cmd::Kill(self.movement()?),
-            "Move" => Cmd::Move(self.movement()?),
-            "ViYankTo" => Cmd::ViYankTo(self.movement()?),
-            "Overwrite" => Cmd::Overwrite(self.character()?),
-            "ReplaceChar" => Cmd::ReplaceChar(self.count()?, self.character()?),
-            "SelfInsert" => Cmd::SelfInsert(self.count()?, self.character()?),
-            "TransposeWords" => Cmd::TransposeWords(self.count()?),
-            "Undo" => Cmd::Undo(self.count()?),
-            "Yank" => Cmd::Yank(self.count()?, self.named(ANCHORS)?),
-            "LineUpOrPreviousHistory" => Cmd::LineUpOrPreviousHistory(self.count()?),
-            "LineDownOrNextHistory" => Cmd::LineDownOrNextHistory(self.count()?),
+        match name {
+            "Dedent" | "Indent" | "Kill" | "Move" | "ViYankTo" => {
+                command_of_movement(name, self.movement()?)
+            }
+            "Overwrite" => Some(Cmd::Overwrite(self.character()?)),
             "AcceptOrInsertLine" => {
                 let _field = self.word();
-                Cmd::AcceptOrInsertLine {
+                Some(Cmd::AcceptOrInsertLine {
                     accept_in_the_middle: self.word() == Some("true"),
-                }
+                })
             }
-            _ => return None,
-        })
+            name => self.counted_command(name),
+        }
+    }
+
+    /// The command of this name, which has a count.
+    fn counted_command(&mut self, name: &str) -> Option<Cmd> {
+        let n = self.count()?;
+        match name {
+            "ReplaceChar" => Some(Cmd::ReplaceChar(n, self.character()?)),
+            "SelfInsert" => Some(Cmd::SelfInsert(n, self.character()?)),
+            "Yank" => Some(Cmd::Yank(n, self.named(ANCHORS)?)),
+            name => command_by(name, n),
+        }
+    }
+}
+
+/// The movement of this name, which has no count.
+fn plain_movement(name: &str) -> Option<Movement> {
+    match name {
+        "WholeLine" => Some(Movement::WholeLine),
+        "BeginningOfLine" => Some(Movement::BeginningOfLine),
+        "EndOfLine" => Some(Movement::EndOfLine),
+        "ViFirstPrint" => Some(Movement::ViFirstPrint),
+        "WholeBuffer" => Some(Movement::WholeBuffer),
+        "BeginningOfBuffer" => Some(Movement::BeginningOfBuffer),
+        "EndOfBuffer" => Some(Movement::EndOfBuffer),
+        _ => None,
+    }
+}
+
+/// The movement of this name by characters or lines.
+fn movement_by(name: &str, n: RepeatCount) -> Option<Movement> {
+    match name {
+        "BackwardChar" => Some(Movement::BackwardChar(n)),
+        "ForwardChar" => Some(Movement::ForwardChar(n)),
+        "LineUp" => Some(Movement::LineUp(n)),
+        "LineDown" => Some(Movement::LineDown(n)),
+        _ => None,
+    }
+}
+
+/// The command of this name, which has a movement.
+fn command_of_movement(name: &str, movement: Movement) -> Option<Cmd> {
+    match name {
+        "Dedent" => Some(Cmd::Dedent(movement)),
+        "Indent" => Some(Cmd::Indent(movement)),
+        "Kill" => Some(Cmd::Kill(movement)),
+        "Move" => Some(Cmd::Move(movement)),
+        "ViYankTo" => Some(Cmd::ViYankTo(movement)),
+        _ => None,
+    }
+}
+
+/// The command of this name, which has a count alone.
+fn command_by(name: &str, n: RepeatCount) -> Option<Cmd> {
+    match name {
+        "TransposeWords" => Some(Cmd::TransposeWords(n)),
+        "Undo" => Some(Cmd::Undo(n)),
+        "LineUpOrPreviousHistory" => Some(Cmd::LineUpOrPreviousHistory(n)),
+        "LineDownOrNextHistory" => Some(Cmd::LineDownOrNextHistory(n)),
+        _ => None,
     }
 }
 

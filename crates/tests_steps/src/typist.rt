@@ -23,7 +23,8 @@ struct Item {
     pasted: String,
 }
 
-/// A reader: the items that are left, and the flag that came with each key that was asked for. One call of it can fail.
+/// A reader: the items that are left, and the flag that came with each key that was asked for. One
+/// call of it can fail.
 pub struct Typist {
     alloc: Global,
     items: VecDeque<Item>,
@@ -59,8 +60,9 @@ impl Typist {
         }
     }
 
-    /// Its call of the number `failing`, from 1 on, fails by an error of its own, and takes nothing; none does where that
-    /// is 0. These are the calls that ask for a key, a character or a pasted text.
+    /// Its call of the number `failing`, from 1 on, fails by an error of its own, and takes
+    /// nothing; none does where that is 0. These are the calls that ask for a key, a character or a
+    /// pasted text.
     pub fn cut_at(&mut self, failing: u64) {
         self.failing = failing;
     }
@@ -99,7 +101,8 @@ impl Typist {
         self.calls == self.failing
     }
 
-    /// Counts the failure of the call that is to fail, or else that the next item is of the wrong kind, and gives its error.
+    /// Counts the failure of the call that is to fail, or else that the next item is of the wrong
+    /// kind, and gives its error.
     fn fault(&mut self, is_cut: bool) -> io::Error
         ensures items { self.new.items ≡ self.old.items }
         ensures rose { Rose self.old.failures self.new.failures }

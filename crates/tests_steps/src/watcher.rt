@@ -19,13 +19,14 @@ pub const REFUSED: &str = "the handler is asleep";
 pub enum Watcher {
     /// Nothing.
     Nothing,
-    /// A k that is inserted, where it is handed this count in this direction; else a command that does nothing.
+    /// A k that is inserted, where it is handed this count in this direction; else a command that
+    /// does nothing.
     ForCount(RepeatCount, bool),
-    /// A k that is inserted, where it is handed so many keys and shown a line of this length with the cursor at this place,
-    /// with or without a hint; else nothing.
+    /// A k that is inserted, where it is handed so many keys and shown a line of this length with
+    /// the cursor at this place, with or without a hint; else nothing.
     At(usize, usize, usize, bool),
-    /// A k that is inserted, where it is shown the edit mode of Emacs or not, the mode of inserting or not, and a hint of
-    /// which so many bytes complete the line; else nothing.
+    /// A k that is inserted, where it is shown the edit mode of Emacs or not, the mode of inserting
+    /// or not, and a hint of which so many bytes complete the line; else nothing.
     Sees(bool, bool, usize),
     /// An error of input or output.
     Fails,

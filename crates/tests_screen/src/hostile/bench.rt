@@ -1,4 +1,5 @@
-//! An editor on a bench: what it stands on, keys that are written as text, how they are read, and what is left.
+//! An editor on a bench: what it stands on, keys that are written as text, how they are read, and
+//! what is left.
 
 use super::handler::Handler;
 use line_buffer::{
@@ -87,8 +88,8 @@ pub(crate) enum Item {
     Paste(&'static str),
 }
 
-/// The keys that a text writes: ⌃ and ⌥ stand for Ctrl and Alt with the next one, or both of them, arrows for the keys
-/// that show them, and a control character for the key that sends it.
+/// The keys that a text writes: ⌃ and ⌥ stand for Ctrl and Alt with the next one, or both of them,
+/// arrows for the keys that show them, and a control character for the key that sends it.
 pub(crate) fn items(alloc: Global, text: &str) -> Result<Vec<Item>> {
     let mut items = Vec::new(alloc);
     let mut mods = M::NONE;
@@ -109,9 +110,9 @@ pub(crate) fn items(alloc: Global, text: &str) -> Result<Vec<Item>> {
     Ok(items)
 }
 
-/// What keys are bound to. A move goes to the line's beginning, a text that is put again is the one that came in last,
-/// and a yanked one is put after the cursor. A handler that is asked answers such a move or nothing; its call of this
-/// number fails, by this fault.
+/// What keys are bound to. A move goes to the line's beginning, a text that is put again is the one
+/// that came in last, and a yanked one is put after the cursor. A handler that is asked answers
+/// such a move or nothing; its call of this number fails, by this fault.
 #[derive(Clone, Copy)]
 pub(crate) enum To {
     Moves,
@@ -154,9 +155,10 @@ pub(crate) fn bind_all(
     Ok(())
 }
 
-/// What an editor stands on: its edit mode and whether it is in Vi's command mode, the screen's columns, the prompt,
-/// the text that is on the line with the cursor in it, what was killed before, what keys are bound to, whether there
-/// are hints, whether brackets are checked, and the lines of the history.
+/// What an editor stands on: its edit mode and whether it is in Vi's command mode, the screen's
+/// columns, the prompt, the text that is on the line with the cursor in it, what was killed before,
+/// what keys are bound to, whether there are hints, whether brackets are checked, and the lines of
+/// the history.
 #[derive(Clone, Copy)]
 pub(crate) struct Desk {
     pub(crate) style: EditMode,
@@ -200,8 +202,8 @@ pub(crate) fn shelf(alloc: Global, entries: &[&str]) -> Result<Shelf> {
     Ok(history)
 }
 
-/// How items are read: by a run; by turns; by turns where they come one by one; or where so many come first. Where a
-/// phrase is cut in turns, its items are read again.
+/// How items are read: by a run; by turns; by turns where they come one by one; or where so many
+/// come first. Where a phrase is cut in turns, its items are read again.
 #[derive(Clone, Copy)]
 pub(crate) enum Way {
     Run,
@@ -218,15 +220,16 @@ pub(crate) enum Beside {
     Yanked,
 }
 
-/// What an editor does: it reads items, or executes a command that does not submit, with what is beside it.
+/// What an editor does: it reads items, or executes a command that does not submit, with what is
+/// beside it.
 pub(crate) enum Work<'w> {
     Reads(Way, &'w [Item]),
     Executes(Cmd, Beside),
 }
 
-/// What is left: the line and its cursor, the history index, what a yank would give, where the cursor is drawn, how
-/// often all was drawn, how it ended, how many items were handed over, whether the line is drawn as in a full redraw,
-/// and what was amiss on the way, if anything was.
+/// What is left: the line and its cursor, the history index, what a yank would give, where the
+/// cursor is drawn, how often all was drawn, how it ended, how many items were handed over, whether
+/// the line is drawn as in a full redraw, and what was amiss on the way, if anything was.
 pub(crate) struct Left {
     pub(crate) line: String,
     pub(crate) pos: usize,
@@ -271,8 +274,8 @@ pub(crate) fn ended(outcome: &Result<()>) -> &'static str {
 /// An editor of which a call may fail.
 pub(crate) type Editor<'out, 'prompt, W> = State<'out, 'prompt, W, Guide, &'static str, Shelf>;
 
-/// What an editor has: the line with its cursor, the history index, the kept layout, and the screen as the last drawing
-/// left it.
+/// What an editor has: the line with its cursor, the history index, the kept layout, and the screen
+/// as the last drawing left it.
 #[derive(Drop)]
 pub(crate) struct Seen<'s, W> {
     pub(crate) line: &'s str,
@@ -293,8 +296,8 @@ pub(crate) fn look<'s, W: Renderer>(state: &'s Editor<'_, '_, W>) -> Seen<'s, W>
     }
 }
 
-/// Reads items in one way and in others, and returns how that ended where nothing is amiss, each way leaves the same,
-/// and a run draws as often as the first.
+/// Reads items in one way and in others, and returns how that ended where nothing is amiss, each
+/// way leaves the same, and a run draws as often as the first.
 pub(crate) fn agree(
     rt: &impl Abort,
     alloc: Global,
@@ -317,10 +320,11 @@ pub(crate) fn agree(
     is_well.then_some(left.end)
 }
 
-/// Lets an editor do its work, and returns what is left. What is looked at on the way: after each turn the cursor is on
-/// a boundary, the place within the history, and the redraws within their bound; after one that proceeds, and after
-/// each command, the layout is a full redraw's and the screen shows the line; a run or a turn fails where the reader
-/// counts a failure. At the end, where all is taken back, the text is that of the start.
+/// Lets an editor do its work, and returns what is left. What is looked at on the way: after each
+/// turn the cursor is on a boundary, the place within the history, and the redraws within their
+/// bound; after one that proceeds, and after each command, the layout is a full redraw's and the
+/// screen shows the line; a run or a turn fails where the reader counts a failure. At the end,
+/// where all is taken back, the text is that of the start.
 pub(crate) fn left_by(rt: &impl Abort, alloc: Global, desk: &Desk, work: Work<'_>) -> Left {
     let (text, cursor) = desk.start;
     assert!(rt; desk.columns > 0 && text.is_char_boundary(cursor));
@@ -388,8 +392,9 @@ impl Drop for Bench<'_, '_, '_> {
 }
 
 impl Bench<'_, '_, '_> {
-    /// Does its work, and returns what is left. The Esc that leads to Vi's command mode is read first, where that is
-    /// wanted, and the move that it stands for is not executed. Before a run nothing is drawn.
+    /// Does its work, and returns what is left. The Esc that leads to Vi's command mode is read
+    /// first, where that is wanted, and the move that it stands for is not executed. Before a run
+    /// nothing is drawn.
     fn does(&mut self, rt: &impl Abort, work: Work<'_>) -> Left {
         if !self.desk.killed.is_empty() {
             let killed = self.kills.kill(self.desk.killed, Side::Append);
@@ -440,8 +445,8 @@ impl Bench<'_, '_, '_> {
         "eof"
     }
 
-    /// Runs, or makes turns until one does not proceed, from the mark on, and looks at what each left. Each reads an
-    /// item at least. Returns how the last one ended.
+    /// Runs, or makes turns until one does not proceed, from the mark on, and looks at what each
+    /// left. Each reads an item at least. Returns how the last one ended.
     fn turns(&mut self, rt: &impl Abort, way: Way) -> &'static str {
         if matches!(way, Way::Run) {
             let (input, keys, kills) = (&mut self.input, &mut self.keys, &mut self.kills);
@@ -524,8 +529,8 @@ impl Bench<'_, '_, '_> {
         if proceed { "proceeds" } else { "submits" }
     }
 
-    /// Whether the layout is a full redraw's with what stands after the line, and the screen shows the line after the
-    /// prompt, with its cursor there.
+    /// Whether the layout is a full redraw's with what stands after the line, and the screen shows
+    /// the line after the prompt, with its cursor there.
     fn is_drawn(&self, rt: &impl Abort) -> bool {
         let Seen {
             line,

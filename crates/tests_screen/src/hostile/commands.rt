@@ -1,6 +1,6 @@
-//! Each movement in each command that takes one, with the counts 0, 1 and 65535, and each command with a count of its
-//! own, with these: on an empty line and at the start, in the middle and at the end of two texts, in both edit modes
-//! and in Vi's command mode.
+//! Each movement in each command that takes one, with the counts 0, 1 and 65535, and each command
+//! with a count of its own, with these: on an empty line and at the start, in the middle and at the
+//! end of two texts, in both edit modes and in Vi's command mode.
 
 use super::bench::{Beside, Desk, PLAIN, Work, left_by};
 use super::movements::{Cell, OF_LONG, OF_TWO, Row};
@@ -12,14 +12,15 @@ use line_keys::cmd::{Anchor, Cmd};
 use std::alloc::Global;
 use std::process::Abort;
 
-/// Where two words change places by a count: where the text begins that differs, how it goes on, and the cursor then.
+/// Where two words change places by a count: where the text begins that differs, how it goes on,
+/// and the cursor then.
 type Swap = (usize, &'static str, usize);
 
 /// A text, a cursor in it, a count, and the words that change places by it.
 type Place = (&'static str, usize, RepeatCount, Swap);
 
-/// A text, a cursor in it, what was killed before, a movement with its cell, and a count with the words that change
-/// places.
+/// A text, a cursor in it, what was killed before, a movement with its cell, and a count with the
+/// words that change places.
 #[derive(Clone, Copy)]
 struct Case<'m> {
     text: &'static str,
@@ -31,8 +32,8 @@ struct Case<'m> {
     swap: Swap,
 }
 
-/// A command that takes a movement, or one with a count. What is killed or copied is yanked then. An undo follows two
-/// characters that are typed.
+/// A command that takes a movement, or one with a count. What is killed or copied is yanked then.
+/// An undo follows two characters that are typed.
 #[derive(Clone, Copy)]
 enum Op {
     Moves,
@@ -103,8 +104,8 @@ fn command(rt: &impl Abort, alloc: Global, case: Case<'_>, op: Op) -> Cmd {
     }
 }
 
-/// The line that an operation leaves, as a range of the text and so many copies of another text that come in its place,
-/// and the cursor.
+/// The line that an operation leaves, as a range of the text and so many copies of another text
+/// that come in its place, and the cursor.
 #[derive(Clone, Copy)]
 struct Splice {
     from: usize,
@@ -114,9 +115,10 @@ struct Splice {
     pos: usize,
 }
 
-/// What an operation leaves; an empty range leaves the text. What a kill takes away is kept, unless its movement goes
-/// by characters. A copy takes what a kill takes away, but for the newline before the line at whose start the cursor
-/// is. By some movements the lines of the range are indented, and by the others the cursor's alone.
+/// What an operation leaves; an empty range leaves the text. What a kill takes away is kept, unless
+/// its movement goes by characters. A copy takes what a kill takes away, but for the newline before
+/// the line at whose start the cursor is. By some movements the lines of the range are indented,
+/// and by the others the cursor's alone.
 fn wanted(case: Case<'_>, op: Op, takes_commands: bool) -> Splice {
     let (text, cursor, (place, from, to)) = (case.text, case.cursor, case.cell);
     let taken = text.get(from..to).unwrap_or("");
@@ -199,7 +201,8 @@ fn counted(case: Case<'_>, op: Op, takes_commands: bool) -> Splice {
     }
 }
 
-/// An x comes for each of so many characters, or of as many as there are. The cursor is on the last.
+/// An x comes for each of so many characters, or of as many as there are. The cursor is on the
+/// last.
 fn over(cursor: usize, rest: &str, n: usize) -> Splice {
     let count = rest.chars().count().min(n);
     let len = match rest.char_indices().nth(count) {
@@ -223,8 +226,8 @@ fn behind(takes_commands: bool, text: &str, end: usize) -> usize {
     }
 }
 
-/// Executes a command with what is beside it: that leaves what is wanted, and nothing is amiss. Copies are alike where
-/// each is as the one before.
+/// Executes a command with what is beside it: that leaves what is wanted, and nothing is amiss.
+/// Copies are alike where each is as the one before.
 fn leaves(rt: &impl Abort, alloc: Global, desk: &Desk, work: Work<'_>, wanted: Splice) {
     let left = left_by(rt, alloc, desk, work);
     let (text, by) = (desk.start.0, wanted.by);
@@ -240,8 +243,8 @@ fn leaves(rt: &impl Abort, alloc: Global, desk: &Desk, work: Work<'_>, wanted: S
     holds(rt, are_all && is_well, text, desk.start.1);
 }
 
-/// In each of these operations and each mode. What makes a long line is executed in command mode alone, where the
-/// cursor steps back.
+/// In each of these operations and each mode. What makes a long line is executed in command mode
+/// alone, where the cursor steps back.
 fn in_each(rt: &impl Abort, alloc: Global, case: Case<'_>, ops: &[Op]) {
     for op in ops {
         let beside = match op {
@@ -275,8 +278,8 @@ const MODES: &[(EditMode, bool)] = &[
     (EditMode::Vi, true),
 ];
 
-/// A text, a cursor in it, and which of a movement's cells is that of this cursor. On an empty line there is none,
-/// since each movement leads nowhere.
+/// A text, a cursor in it, and which of a movement's cells is that of this cursor. On an empty line
+/// there is none, since each movement leads nowhere.
 type Spot = (&'static str, usize, usize);
 
 /// Each movement, from each of these cursors.

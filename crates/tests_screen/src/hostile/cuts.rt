@@ -1,5 +1,6 @@
-//! Lists of keys that are cut at every place: what is left is what the last whole phrase leaves; and where the keys of
-//! the phrase that was cut are read again with the rest after them, what the whole list leaves.
+//! Lists of keys that are cut at every place: what is left is what the last whole phrase leaves;
+//! and where the keys of the phrase that was cut are read again with the rest after them, what the
+//! whole list leaves.
 
 use super::bench::{Desk, Item, PLAIN, To, VI, Way, Work, items, left_by};
 use crate::holds;
@@ -8,12 +9,13 @@ use line_keys::keys::{KeyCode as K, KeyEvent, Modifiers as M};
 use std::alloc::Global;
 use std::process::Abort;
 
-/// How often the keys of a phrase have drawn the line, after each of them but the last; the line with a bar at its
-/// cursor that the phrase leaves; and what a yank would give then.
+/// How often the keys of a phrase have drawn the line, after each of them but the last; the line
+/// with a bar at its cursor that the phrase leaves; and what a yank would give then.
 type Phrase = (&'static [u64], &'static str, Option<&'static str>);
 
-/// The edit mode with what is bound, the keys, how many of them are typed first, each a phrase, the phrases after
-/// these, how a run on all ends, where the cursor is drawn then, and how often all is drawn.
+/// The edit mode with what is bound, the keys, how many of them are typed first, each a phrase, the
+/// phrases after these, how a run on all ends, where the cursor is drawn then, and how often all is
+/// drawn.
 #[derive(Clone, Copy)]
 struct Row {
     desk: Desk,
@@ -168,8 +170,8 @@ const BEHIND_ALT: Row = Row {
     redraws: 4,
 };
 
-/// How many keys the last whole phrase ends after, how often the keys after it have drawn the line, the line before and
-/// after its cursor, and what a yank would give.
+/// How many keys the last whole phrase ends after, how often the keys after it have drawn the line,
+/// the line before and after its cursor, and what a yank would give.
 type Stage = (
     usize,
     u64,
@@ -195,8 +197,9 @@ fn stage(row: &Row, cut: usize) -> Stage {
     last
 }
 
-/// What is left after this work is what a phrase leaves, after so many keys and by this end, and nothing is amiss.
-/// Returns whether the line is drawn as in a full redraw, where the cursor is drawn, and how often all was drawn.
+/// What is left after this work is what a phrase leaves, after so many keys and by this end, and
+/// nothing is amiss. Returns whether the line is drawn as in a full redraw, where the cursor is
+/// drawn, and how often all was drawn.
 fn leaves(
     rt: &impl Abort,
     alloc: Global,
@@ -213,9 +216,10 @@ fn leaves(
     (left.is_drawn, left.at, left.redraws)
 }
 
-/// Runs on the first keys: the input ends, unless they are all; and what is left is what the last whole phrase leaves.
-/// Then these are read by turns, and with the rest after them those of the phrase that was cut once more: what is left
-/// is what all leave, but that a count that was cut is drawn once more.
+/// Runs on the first keys: the input ends, unless they are all; and what is left is what the last
+/// whole phrase leaves. Then these are read by turns, and with the rest after them those of the
+/// phrase that was cut once more: what is left is what all leave, but that a count that was cut is
+/// drawn once more.
 fn cuts(rt: &impl Abort, alloc: Global, row: &Row, keys: &[Item], at: usize) {
     let last = stage(row, at);
     let end = if at < keys.len() { "eof" } else { row.end };

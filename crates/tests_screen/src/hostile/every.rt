@@ -1,5 +1,5 @@
-//! Every key, with each set of modifiers, in both edit modes: alone, after a count, after each operator, and as second
-//! key.
+//! Every key, with each set of modifiers, in both edit modes: alone, after a count, after each
+//! operator, and as second key.
 
 use super::bench::{CODES, Desk, Item, PLAIN, SETS, Way, agree, items};
 use crate::holds;
@@ -50,7 +50,8 @@ const ROWS: &[Row] = &[
     (Vi, "ab\u{1b}Rd", true),
 ];
 
-/// How a key of its own has to end: three submit or interrupt in both edit modes, and one submits in Vi alone.
+/// How a key of its own has to end: three submit or interrupt in both edit modes, and one submits
+/// in Vi alone.
 fn end_of(style: EditMode, key: KeyEvent) -> &'static str {
     match (key, style) {
         (KeyEvent(K::Enter, M::NONE), _) | (KeyEvent(K::Char('J'), M::CTRL), _) => "submits",
@@ -60,8 +61,9 @@ fn end_of(style: EditMode, key: KeyEvent) -> &'static str {
     }
 }
 
-/// Types each key after what is typed before it, all at once and one by one: both leave the same, by the end that is
-/// wanted. A failure has the key's number: eight sets of modifiers for each code.
+/// Types each key after what is typed before it, all at once and one by one: both leave the same,
+/// by the end that is wanted. A failure has the key's number: eight sets of modifiers for each
+/// code.
 fn end_as_they_must(rt: &impl Abort, alloc: Global, (style, before, alone): Row) {
     let desk = Desk { style, ..PLAIN };
     let mut typed = items(alloc, before).expect(rt, "no fault");

@@ -10,7 +10,8 @@ use line_keys::cmd::Cmd;
 use std::alloc::Global;
 use tests_parties::countdown::Countdown;
 
-/// A handler that answers a move to the line's beginning, or nothing, and counts its calls, one of which may fail.
+/// A handler that answers a move to the line's beginning, or nothing, and counts its calls, one of
+/// which may fail.
 #[derive(Drop)]
 pub(crate) struct Handler {
     pub(crate) moves: bool,

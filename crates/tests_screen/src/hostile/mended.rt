@@ -1,5 +1,5 @@
-//! Each call of those who are asked fails once, and each run answers the error of the one that failed. Once nothing
-//! fails, what is left is drawn as an editor that is made of it draws it.
+//! Each call of those who are asked fails once, and each run answers the error of the one that
+//! failed. Once nothing fails, what is left is drawn as an editor that is made of it draws it.
 
 use super::bench::{self, Desk, Item, PLAIN, Seen, To, VI, bind_all, ended, items, look, shelf};
 use crate::holds;
@@ -61,14 +61,15 @@ const FAULTS: [Fault; 6] = [
     },
 ];
 
-/// A run: the desk with the edit mode, the history's lines and whether there are hints, and what is typed; how it ends
-/// where nothing fails; the line that is left then with a bar at its cursor, the history index, where the cursor is
-/// drawn, and how often all was drawn; and how many calls each of those who are asked gets, by its number.
+/// A run: the desk with the edit mode, the history's lines and whether there are hints, and what is
+/// typed; how it ends where nothing fails; the line that is left then with a bar at its cursor, the
+/// history index, where the cursor is drawn, and how often all was drawn; and how many calls each
+/// of those who are asked gets, by its number.
 ///
-/// The reader is asked for each key, and once more where the input ends. The screen draws all, or writes a character or
-/// moves the cursor. The helper is asked for a hint where the text changes or all is drawn, and for a validation result
-/// by Enter. The handler of each key is asked for no key of a count, and for no further key after an operator or of a
-/// sequence.
+/// The reader is asked for each key, and once more where the input ends. The screen draws all, or
+/// writes a character or moves the cursor. The helper is asked for a hint where the text changes or
+/// all is drawn, and for a validation result by Enter. The handler of each key is asked for no key
+/// of a count, and for no further key after an operator or of a sequence.
 #[derive(Clone, Copy)]
 struct Scene {
     desk: Desk,
@@ -134,8 +135,8 @@ const TAKEN_HINT: Scene = Scene {
     calls: [5, 5, 5 + 1, 5, 0, 4],
 };
 
-/// The screen is asked for a drawing of each typed character, since a hint stands after it; for the two moves; and for
-/// what goes and comes back.
+/// The screen is asked for a drawing of each typed character, since a hint stands after it; for the
+/// two moves; and for what goes and comes back.
 const TO_THE_MATCH: Scene = Scene {
     desk: Desk {
         entries: &["(a)bc"],
@@ -159,8 +160,8 @@ enum Ending {
     WellOrByMemory,
 }
 
-/// A scene; the number of the one whose call fails, and the call's number among that one's calls, from 1 on, or 0 where
-/// none does; and how the run is to end.
+/// A scene; the number of the one whose call fails, and the call's number among that one's calls,
+/// from 1 on, or 0 where none does; and how the run is to end.
 #[derive(Clone, Copy)]
 struct Take<'s> {
     scene: &'s Scene,
@@ -220,8 +221,8 @@ fn prepared(alloc: Global, take: Take<'_>, bindings: &mut Bindings) -> Result<Ty
     Ok(typist)
 }
 
-/// Whether a run on what is typed ended as it is to end: by the fault of the one that failed, after which the line is
-/// mended, or as it does where nothing fails, and left what the scene has.
+/// Whether a run on what is typed ended as it is to end: by the fault of the one that failed, after
+/// which the line is mended, or as it does where nothing fails, and left what the scene has.
 fn is_right(alloc: Global, take: Take<'_>, mut state: Editor<'_, '_>) -> Result<bool> {
     let mut bindings = Bindings::new(alloc);
     let is_right = match prepared(alloc, take, &mut bindings) {
@@ -279,7 +280,8 @@ fn is_left(scene: &Scene, state: &Editor<'_, '_>, end: &str) -> bool {
     is_drawn && is_line && (place, end) == (scene.place, scene.end)
 }
 
-/// Whether the place is within the history, and the line is drawn again as an editor that is made of it draws it.
+/// Whether the place is within the history, and the line is drawn again as an editor that is made
+/// of it draws it.
 fn is_mended(alloc: Global, scene: &Scene, state: &mut Editor<'_, '_>) -> Result<bool> {
     state.refresh_line()?;
     let Seen {
@@ -312,8 +314,8 @@ fn draws_alike(mut anew: Editor<'_, '_>, state: &Editor<'_, '_>) -> Result<bool>
     Ok(is_hinted && are_alike(look(&anew), look(state)))
 }
 
-/// Whether two editors have the same line, place and layout, and their screens show the same, and were handed the same
-/// last.
+/// Whether two editors have the same line, place and layout, and their screens show the same, and
+/// were handed the same last.
 fn are_alike(one: Seen<'_, Recorder>, other: Seen<'_, Recorder>) -> bool {
     let (kept, second) = (one.layout, other.layout);
     let is_placed = (kept.prompt_size, kept.cursor, kept.end)
@@ -327,8 +329,8 @@ fn are_alike(one: Seen<'_, Recorder>, other: Seen<'_, Recorder>) -> bool {
     is_placed && is_told && is_line && is_shown
 }
 
-/// What a screen was handed last, before and after the old layout. A line of its log can miss its end, where memory ran
-/// out.
+/// What a screen was handed last, before and after the old layout. A line of its log can miss its
+/// end, where memory ran out.
 fn handed_last(log: &str) -> Option<(&str, &str)> {
     let (_, last) = log.rsplit_once("draw ")?;
     let (before, rest) = last.split_once(" old ")?;
@@ -344,7 +346,8 @@ const SCENES: &[Scene] = &[
     TO_THE_MATCH,
 ];
 
-/// Fails each call of those who are asked in a scene in turn, and the one after the last of each, which is never made.
+/// Fails each call of those who are asked in a scene in turn, and the one after the last of each,
+/// which is never made.
 fn fails_each(rt: &impl Abort, alloc: Global, scene: &Scene) {
     for (party, calls) in scene.calls.iter().enumerate() {
         for call in 1..calls.saturating_add(2) {

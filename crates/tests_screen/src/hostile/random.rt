@@ -1,6 +1,7 @@
-//! Lists of keys and pasted texts that are made from a number, in both edit modes, with bindings, hints and brackets,
-//! on narrow and wide screens. What is promised of each turn is looked at on the desk; a run leaves what turns leave,
-//! and so do items that come one by one; and where all is taken back the text is that of the start.
+//! Lists of keys and pasted texts that are made from a number, in both edit modes, with bindings,
+//! hints and brackets, on narrow and wide screens. What is promised of each turn is looked at on
+//! the desk; a run leaves what turns leave, and so do items that come one by one; and where all is
+//! taken back the text is that of the start.
 
 use super::bench::{CODES, Desk, Item, SETS, To, Way, agree};
 use crate::holds;
@@ -10,8 +11,8 @@ use line_keys::keys::{KeyCode as K, KeyEvent, Modifiers as M};
 use std::alloc::Global;
 use std::process::Abort;
 
-/// Numbers that look mixed, each from the one before by a linear congruence, of which the upper bits are taken; and how
-/// many digits were made.
+/// Numbers that look mixed, each from the one before by a linear congruence, of which the upper
+/// bits are taken; and how many digits were made.
 #[derive(Clone, Copy)]
 struct Dice {
     last: usize,
@@ -115,8 +116,8 @@ const OTHERS: &[K] = &[
     K::F(5),
 ];
 
-/// A key: often one of a table of the edit mode, at times any one. The mark before a pasted text then stands without
-/// one.
+/// A key: often one of a table of the edit mode, at times any one. The mark before a pasted text
+/// then stands without one.
 fn key(dice: &mut Dice, style: EditMode) -> KeyEvent {
     match dice.below(16) {
         0..=4 => KeyEvent(K::Char(dice.pick(TYPED, 'a')), M::NONE),
@@ -125,7 +126,8 @@ fn key(dice: &mut Dice, style: EditMode) -> KeyEvent {
         5..=9 if dice.below(3) == 0 => KeyEvent(K::Char(dice.pick(WITH_ALT, 'b')), M::ALT),
         5..=9 => KeyEvent(K::Char(dice.pick(WITH_CTRL, 'A')), M::CTRL),
         10..=11 => KeyEvent(dice.pick(OTHERS, K::Left), M::NONE),
-        // mostly a digit of a count; a list has two digits at most, so that no text grows without end
+        // mostly a digit of a count; a list has two digits at most, so that no text grows without
+        // end
         12 if dice.digits == 2 => ESC,
         12 => {
             dice.digits = dice.digits.saturating_add(1);
@@ -167,8 +169,8 @@ const A: KeyEvent = KeyEvent(K::Char('a'), M::NONE);
 
 const CTRL_X: KeyEvent = KeyEvent(K::Char('X'), M::CTRL);
 
-/// A key is bound to a text that comes again, one and a sequence that begins with it to an undo and to a yank, and a
-/// sequence of C-X to a move.
+/// A key is bound to a text that comes again, one and a sequence that begins with it to an undo and
+/// to a yank, and a sequence of C-X to a move.
 const BOUND: &[(&[KeyEvent], To)] = &[
     (&[F5], To::PutsAgain),
     (&[F4, F4], To::Undoes(1)),
@@ -195,8 +197,8 @@ fn laid(dice: &mut Dice, style: EditMode) -> Desk {
     }
 }
 
-/// The list of this number, up to 32 items of which one in twelve is a pasted text, read in each way: nothing is amiss,
-/// each leaves the same, and a run draws as often as turns.
+/// The list of this number, up to 32 items of which one in twelve is a pasted text, read in each
+/// way: nothing is amiss, each leaves the same, and a run draws as often as turns.
 fn plays(rt: &impl Abort, alloc: Global, style: EditMode, seed: usize) {
     let mut dice = Dice {
         last: seed,

@@ -31,7 +31,8 @@ fn shows(rt: &impl Abort, alloc: Global, parsed: &mut Parsed, out: &mut Vec<u8>)
     }
 }
 
-/// Writes down the next item: a typed character alone, a key, or a pasted text with the key that comes before it.
+/// Writes down the next item: a typed character alone, a key, or a pasted text with the key that
+/// comes before it.
 fn shows_item(rt: &impl Abort, out: &mut Vec<u8>, items: &mut Script) {
     let written = match items.next_key(false).expect(rt, "no fault") {
         KeyEvent(KeyCode::Char(c), Modifiers::NONE) => write!(out, " {c:?}"),
@@ -44,7 +45,8 @@ fn shows_item(rt: &impl Abort, out: &mut Vec<u8>, items: &mut Script) {
     written.expect(rt, "no fault");
 }
 
-/// One of the lines that are written down of a script is this one, or the script is refused by the number of a line.
+/// One of the lines that are written down of a script is this one, or the script is refused by the
+/// number of a line.
 fn gives(rt: &impl Abort, alloc: Global, script: &[u8], wanted: &str) {
     let mut out = Vec::new(alloc);
     match read_script(alloc, script) {
