@@ -228,6 +228,11 @@ impl<'out, 'prompt, W: Renderer, H: Helper, P: Prompt, S: History> State<
         self.view.layout()
     }
 
+    /// Returns the allocator of the line's memory.
+    pub fn allocator(&self) -> Global {
+        self.alloc
+    }
+
     /// Returns the renderer, as the last drawing left it.
     pub fn out(&self) -> &W
         ensures surface { W.surface result.now
