@@ -1,5 +1,5 @@
 -- What is drawn in part of a screen that is known: a character at its end, and a clearing of the rest of a row.
-use Rattle.std.proofs.Common.{◌≡◌, ◌<◌, ◌≤◌, ℕ, ◌+◌, ◌-◌, ◌==◌, ◌&&◌, nat_lt, Bool, true, false, cond, not, List, [], ◌∷◌, ◌++◌, length, drop, Option, Some, None, is_some, refl, subst, sym, ap, ap₂, ◌∙◌, arith}
+use Rattle.std.proofs.Common.{◌≡◌, ◌<◌, ◌≤◌, ℕ, ◌+◌, ◌-◌, ◌==◌, ◌&&◌, ◌||◌, nat_lt, Bool, true, false, cond, not, List, [], ◌∷◌, ◌++◌, length, drop, Option, Some, None, is_some, refl, subst, sym, ap, ap₂, ◌∙◌, arith}
 use Rattle.std.specs.Option.{IfSome}
 use Rattle.std.specs.List.{list_all}
 use Rattle.std.specs.Io.KnownBytes.{Appends}
@@ -7,6 +7,7 @@ use Rattle.std.proofs.Math.Seq.{drop-append_seam}
 use Rattle.std.proofs.lemmas.Bool.{and_parts}
 use Rattle.std.proofs.lemmas.Bool.Decides.{nat_tests}
 use Rattle.std.proofs.lemmas.List.{length-append, map-append}
+use Rattle.std.proofs.lemmas.List.Folds.{list_all-append}
 use Rattle.std.proofs.lemmas.Str.{IsUtf8-from_ascii}
 use Rattle.unicode_segmentation.specs.Grapheme.{graphemes}
 use Rattle.line_buffer.specs.Printable.{is_plain, is_printable}
@@ -25,6 +26,7 @@ use Rattle.line_term.specs.Parts.{RestsInRow, follows}
 use Rattle.line_term.specs.Shown.{EndsInRows, IsShown, TellsKnown, is_known, is_same_place, known_screen}
 use Rattle.line_term.specs.Terminal.{sent}
 use Rattle.line_term.proofs.KnownLemmas.{Measures, Takes, goes-on, known-measures, measures-known, place-same, same-place}
+use Rattle.line_term.proofs.PlainLemmas.{cleaned_printable}
 use Rattle.line_term.proofs.RedrawLemmas.{measured-row}
 use Rattle.line_term.proofs.ShownLemmas.{parts-show}
 
@@ -148,6 +150,32 @@ wrote {O} contents columns columns' whole plain goes whole' end out out' s s' bu
               (subst (λ b. Takes columns s (written_on columns s b) (cleaned b ++ wrap (measured columns) b s.position)) (sym found.one)
               (write-takes columns c s some found.bare room found.print all_plain before last)),
         )
+
+-- with a column left behind it, it is written as it is
+pub typed-bytes : (columns : ℕ) (s : Screen) (end : Position) (buf : List ℕ) → follows columns s end buf ≡ true → end.col + 1 < columns
+    → cleaned buf ++ wrap (measured columns) buf s.position ≡ buf
+typed-bytes columns s end buf goes room =
+    let found = follows-is columns s end buf goes in
+    let c = found.char in
+    let free : s.position.col + 1 < columns = omega (arith, room, ap (λ (q : Position). q.col) found.at) in
+    let at = measured-one columns c s.position free found.print in
+    let on : ((measured columns (c ∷ []) s.position).col == 0) ≡ false = grind (arith, nat_tests, ap (λ (q : Position). q.col) at) in
+    subst (λ b. cleaned b ++ wrap (measured columns) b s.position ≡ b) (sym found.one)
+    (rw (cleaned_printable (c ∷ []) (rw found.print refl), on) refl)
+
+-- and the text stays printable ASCII and newlines
+pub typed-plain : (columns : ℕ) (s : Screen) (end : Position) (buf : List ℕ) → follows columns s end buf ≡ true → list_all is_plain s.text ≡ true
+    → list_all is_plain (s.text ++ buf) ≡ true
+typed-plain columns s end buf goes plain =
+    let found = follows-is columns s end buf goes in
+    let c = found.char in
+    let one : list_all is_plain (c ∷ []) ≡ true = by_print (c == 10) (is_printable c) found.print in
+    subst (λ b. list_all is_plain (s.text ++ b) ≡ true) (sym found.one)
+    (list_all-append is_plain s.text (c ∷ []) ∙ ap₂ (λ x y. x && y) plain one)
+  where
+    by_print : (newline print : Bool) → print ≡ true → ((newline || print) && true) ≡ true
+    by_print true print is = refl
+    by_print false print is = rw is refl
 
 -- a test that holds where another one does, and the other way round, is that one
 both-ways : (a b : Bool) → (a ≡ true → b ≡ true) → (b ≡ true → a ≡ true) → a ≡ b

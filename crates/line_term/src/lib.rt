@@ -12,7 +12,6 @@ pub mod output;
 mod painted;
 mod parts;
 mod redraw;
-mod send;
 pub mod sequence;
 pub mod tables;
 pub mod utf8;

@@ -15,6 +15,28 @@ use line_screen::Plain;
 use line_state::ScreenState;
 use std::alloc::Global;
 
+/// What is handed over for a drawing: the layout is its own, and no highlighter means no colors.
+pub(crate) struct Handed<'d, P: Prompt, H: Highlighter> {
+    pub(crate) prompt: &'d P,
+    pub(crate) line: &'d LineBuffer,
+    /// The text after the line.
+    pub(crate) behind: Option<&'d str>,
+    pub(crate) layout: &'d Layout,
+    pub(crate) highlighter: Option<&'d H>,
+}
+
+impl<P: Prompt, H: Highlighter> Drop for Handed<'_, P, H> {
+    fn drop(self) {
+        let Handed {
+            prompt: _,
+            line: _,
+            behind: _,
+            layout: _,
+            highlighter: _,
+        } = self;
+    }
+}
+
 /// Appends the bytes of a full redraw, which is shown all at once where this is wanted.
 ///
 /// # Errors
@@ -25,42 +47,29 @@ pub(crate) fn push_redraw<P: Prompt, H: Highlighter, R: RawReader>(
     alloc: Global,
     screen: &Plain<R>,
     at_once: bool,
-    prompt: &P,
-    line: &LineBuffer,
-    hint: Option<&str>,
     old_layout: Option<&Layout>,
-    new_layout: &Layout,
-    highlighter: Option<&H>,
+    handed: Handed<'_, P, H>,
 ) -> Result<()>
     ensures draws { OnOk result (AppendsSome (string_bytes bytes.old)
         (string_bytes bytes.new) (RedrawsInFull P.Prompt H.Highlighter
         (⟦<Plain<R> as ScreenState>⟧.surface screen.now).measure at_once
         (option_map (λ l. l.now) old_layout.entry) (record {
-          prompt = prompt.now;
-          line = line.now;
-          behind = option_map (λ s. s.now) hint.entry;
-          layout = new_layout.now;
-          highlighter = option_map (λ h. h.now) highlighter.entry;
+          prompt = handed.entry.prompt.now;
+          line = handed.entry.line.now;
+          behind = option_map (λ s. s.now) handed.entry.behind;
+          layout = handed.entry.layout.now;
+          highlighter = option_map (λ h. h.now) handed.entry.highlighter;
         }))) }
-    ensures texts { OnOk result (AreTexts (P.raw_text prompt.now) line.now.text
-        (option_map (λ s. s.now) hint.entry)) }
-    ensures cursor { OnOk result (IsPlace new_layout.now.cursor) }
+    ensures texts { OnOk result (AreTexts (P.raw_text handed.entry.prompt.now)
+        handed.entry.line.now.text (option_map (λ s. s.now) handed.entry.behind)) }
+    ensures cursor { OnOk result (IsPlace handed.entry.layout.now.cursor) }
     ensures before { OnOk result (IfSome (option_map (λ l. l.now) old_layout.entry)
         (λ l. IsPlace l.cursor)) }
     ensures faults { FaultsOnly result }
 {
     push_if(bytes, at_once, "\x1b[?2026h")?;
     push_clear(bytes, old_layout)?;
-    push_drawing(
-        bytes,
-        alloc,
-        screen,
-        prompt,
-        line,
-        hint,
-        new_layout,
-        highlighter,
-    )?;
+    push_drawing(bytes, alloc, screen, handed)?;
     push_if(bytes, at_once, "\x1b[?2026l")?;
     Ok(())
 }
@@ -73,34 +82,37 @@ fn push_drawing<P: Prompt, H: Highlighter, R: RawReader>(
     bytes: &mut String,
     alloc: Global,
     screen: &Plain<R>,
-    prompt: &P,
-    line: &LineBuffer,
-    hint: Option<&str>,
-    layout: &Layout,
-    highlighter: Option<&H>,
+    handed: Handed<'_, P, H>,
 ) -> Result<()>
     ensures draws { OnOk result (AppendsSome (string_bytes bytes.old)
         (string_bytes bytes.new) (Draws P.Prompt H.Highlighter
         (⟦<Plain<R> as ScreenState>⟧.surface screen.now).measure (record {
-          prompt = prompt.now;
-          line = line.now;
-          behind = option_map (λ s. s.now) hint.entry;
-          layout = layout.now;
-          highlighter = option_map (λ h. h.now) highlighter.entry;
+          prompt = handed.entry.prompt.now;
+          line = handed.entry.line.now;
+          behind = option_map (λ s. s.now) handed.entry.behind;
+          layout = handed.entry.layout.now;
+          highlighter = option_map (λ h. h.now) handed.entry.highlighter;
         }))) }
-    ensures texts { OnOk result (AreTexts (P.raw_text prompt.now) line.now.text
-        (option_map (λ s. s.now) hint.entry)) }
-    ensures cursor { OnOk result (IsPlace layout.now.cursor) }
+    ensures texts { OnOk result (AreTexts (P.raw_text handed.entry.prompt.now)
+        handed.entry.line.now.text (option_map (λ s. s.now) handed.entry.behind)) }
+    ensures cursor { OnOk result (IsPlace handed.entry.layout.now.cursor) }
     ensures faults { FaultsOnly result }
 {
+    let Handed {
+        prompt,
+        line,
+        behind,
+        layout,
+        highlighter,
+    } = handed;
     let text = line.as_str();
-    let (begin, end) = (layout.prompt_size, line_end(screen, text, hint, layout));
+    let (begin, end) = (layout.prompt_size, line_end(screen, text, behind, layout));
     push_prompt(bytes, alloc, prompt, layout.default_prompt, highlighter)?;
     push_wrap(bytes, alloc, screen, prompt.raw(), ORIGIN, begin)?;
     push_line(bytes, alloc, line, highlighter)?;
     push_wrap(bytes, alloc, screen, text, begin, end)?;
-    push_behind(bytes, alloc, hint, highlighter)?;
-    push_wrap_behind(bytes, alloc, screen, hint, end, layout.end)?;
+    push_behind(bytes, alloc, behind, highlighter)?;
+    push_wrap_behind(bytes, alloc, screen, behind, end, layout.end)?;
     push_move(bytes, layout.end, layout.cursor)?;
     Ok(())
 }
