@@ -163,7 +163,9 @@ impl KeyQueue {
     pub fn mark(&mut self)
         ensures { self.new ≡ record self.old { read = [] } }
     {
-        drop(self.items.drain(..self.read));
+        for _ in 0..self.read {
+            self.items.pop_front();
+        }
         self.read = 0;
     }
 

@@ -1,5 +1,5 @@
 -- What is drawn in part of a screen that is known: a character at its end, and a clearing of the rest of a row.
-use Rattle.std.proofs.Common.{◌≡◌, ◌<◌, ◌≤◌, ℕ, ◌+◌, ◌-◌, ◌==◌, ◌&&◌, ◌||◌, nat_lt, Bool, true, false, cond, not, List, [], ◌∷◌, ◌++◌, length, drop, Option, Some, None, is_some, refl, subst, sym, ap, ap₂, ◌∙◌, arith}
+use Rattle.std.proofs.Common.{◌≡◌, ◌<◌, ◌≤◌, ℕ, ◌+◌, ◌-◌, ◌==◌, ◌&&◌, ◌||◌, nat_lt, Bool, true, false, cond, not, List, [], ◌∷◌, ◌++◌, length, drop, Option, Some, None, is_some, Result, Ok, Err, OnOk, refl, subst, sym, ap, ap₂, ◌∙◌, arith}
 use Rattle.std.specs.Option.{IfSome}
 use Rattle.std.specs.List.{list_all}
 use Rattle.std.specs.Io.KnownBytes.{Appends}
@@ -176,6 +176,18 @@ typed-plain columns s end buf goes plain =
     by_print : (newline print : Bool) → print ≡ true → ((newline || print) && true) ≡ true
     by_print true print is = refl
     by_print false print is = rw is refl
+
+-- what follows from a success
+pub when-ok : {T E A : Type 0} (result : Result T E) (B : Type 0) → OnOk result A → (A → B) → OnOk result B
+when-ok (Ok _) B holds then_so = then_so holds
+when-ok (Err _) B holds then_so = tt
+
+-- what is known of it stays
+pub typed-whole : (whole plain whole' : Bool) → plain ≡ true → whole' ≡ whole → whole' ≡ (whole && (plain && true))
+typed-whole whole plain whole' is same = same ∙ by_whole whole ∙ ap (λ b. whole && (b && true)) (sym is) where
+  by_whole : (b : Bool) → b ≡ (b && (true && true))
+  by_whole true = refl
+  by_whole false = refl
 
 -- a test that holds where another one does, and the other way round, is that one
 both-ways : (a b : Bool) → (a ≡ true → b ≡ true) → (b ≡ true → a ≡ true) → a ≡ b

@@ -1,5 +1,5 @@
 //! A screen that is drawn by writing bytes to a terminal.
-ghost use Rattle.std.specs.Prelude.{◌≡◌, nat_lt, ℕ, ◌+◌, ◌<◌, ◌&&◌, ◌++◌, List, length, [], ◌∷◌, true, false, not, OnOk, OnErr, is_some, option_map, string_bytes, if◌then◌else◌, None};
+ghost use Rattle.std.specs.Prelude.{◌≡◌, nat_lt, ℕ, ◌<◌, ◌&&◌, ◌++◌, List, length, [], ◌∷◌, true, false, not, OnOk, OnErr, is_some, option_map, string_bytes, if◌then◌else◌, None};
 ghost use Rattle.std.specs.List.{list_all};
 ghost use Rattle.std.specs.Io.KnownBytes.{Appends};
 ghost use Rattle.line_config.specs.Error.{FaultsOnly, IsOneMore};
@@ -16,9 +16,10 @@ ghost use Rattle.line_term.specs.Shown.{EndsInRows, IsOnTerminal, TellsKnown};
 
 use crate::drawn::push_cleaned;
 use crate::escape::push_move;
-use crate::output::{Output, counted, send, send_if};
+use crate::output::{counted, send, send_if};
+use crate::output_state::Output;
 use crate::painted::{ORIGIN, asked, push_clear_from};
-use crate::parts::{follows, rest_of_row};
+use crate::parts::{follows, goes_on_in_row, rest_of_row};
 use crate::redraw::{Handed, push_redraw};
 use crate::wrap::push_wrap;
 use line_buffer::{GraphemeClusterMode, Layout, LineBuffer, Position, Unit, is_plain_text};
@@ -209,14 +210,6 @@ impl<O: Write + Drop, R: RawReader> Ansi<O, R> {
         out
     }
 
-    // Returns whether a column is left after one more character at the end of what is shown.
-    fn leaves_a_column(&self) -> bool
-        ensures { result ≡ true
-            → self.now.end.col + 1 < (⟦<Self as ScreenState>⟧.surface self.now).columns }
-    {
-        self.end.col < self.shown.get_columns().saturating_sub(1)
-    }
-
     /// Asks the terminal to put marks round a text that is pasted.
     ///
     /// # Errors
@@ -404,7 +397,7 @@ impl<O: Write + Drop, R: RawReader> Renderer for Ansi<O, R> {
             ++ wrap (⟦<Self as ScreenState>⟧.surface self.old).measure buf.now
             (⟦<Self as ScreenState>⟧.screen self.old).position) }
     {
-        if self.plain && follows(&self.shown, self.end, buf) && self.leaves_a_column() {
+        if self.plain && goes_on_in_row(&self.shown, self.end, buf) {
             self.shown.write_and_flush(buf)?;
             self.end = self.shown.cursor();
             return send(

@@ -8,7 +8,8 @@ pub mod decoder;
 mod drawn;
 mod escape;
 pub mod laws;
-pub mod output;
+mod output;
+pub mod output_state;
 mod painted;
 mod parts;
 mod redraw;
@@ -19,5 +20,5 @@ mod wrap;
 
 pub use ansi::Ansi;
 pub use decoder::Decoder;
-pub use output::Output;
+pub use output_state::Output;
 pub use sequence::Size;

@@ -98,18 +98,21 @@ fn push_drawing<P: Prompt, H: Highlighter, R: RawReader>(
     ensures cursor { OnOk result (IsPlace handed.entry.layout.now.cursor) }
     ensures faults { FaultsOnly result }
 {
-    let Handed {
-        prompt,
-        line,
-        behind,
-        layout,
+    let (layout, highlighter) = (handed.layout, handed.highlighter);
+    let (text, behind) = (handed.line.as_str(), handed.behind);
+    let (begin, end) = (
+        layout.prompt_size,
+        line_end(screen, text, behind, layout),
+    );
+    push_prompt(
+        bytes,
+        alloc,
+        handed.prompt,
+        layout.default_prompt,
         highlighter,
-    } = handed;
-    let text = line.as_str();
-    let (begin, end) = (layout.prompt_size, line_end(screen, text, behind, layout));
-    push_prompt(bytes, alloc, prompt, layout.default_prompt, highlighter)?;
-    push_wrap(bytes, alloc, screen, prompt.raw(), ORIGIN, begin)?;
-    push_line(bytes, alloc, line, highlighter)?;
+    )?;
+    push_wrap(bytes, alloc, screen, handed.prompt.raw(), ORIGIN, begin)?;
+    push_line(bytes, alloc, handed.line, highlighter)?;
     push_wrap(bytes, alloc, screen, text, begin, end)?;
     push_behind(bytes, alloc, behind, highlighter)?;
     push_wrap_behind(bytes, alloc, screen, behind, end, layout.end)?;
