@@ -35,7 +35,7 @@ use line_config::{Prompt, Result};
 use line_keys::editor_state::EditorState;
 use line_keys::refresher::{Invoke, Refresher};
 use line_parts::consulted::Consulted;
-use line_parts::parties::Parties;
+use line_parts::helper_context::HelperContext;
 use line_parts::{CmdKind, Context, Helper, Hint, History};
 use line_state::{Drawn, EditedLine, Renderer, ScreenState, View};
 use open_line::OpenLine;
@@ -46,7 +46,7 @@ pub struct State<'out, 'prompt, W: Renderer, H: Helper, P: Prompt, S: History> {
     alloc: Global,
     line: OpenLine<H>,
     view: View<'out, 'prompt, W, P>,
-    parties: Parties<'out, H, S>,
+    context: HelperContext<'out, H, S>,
 }
 
 impl<W: Renderer, H: Helper, P: Prompt, S: History> Drop for State<'_, '_, W, H, P, S> {
@@ -55,7 +55,7 @@ impl<W: Renderer, H: Helper, P: Prompt, S: History> Drop for State<'_, '_, W, H,
             alloc: _,
             line: _,
             view: _,
-            parties: _,
+            context: _,
         } = self;
     }
 }
@@ -67,21 +67,21 @@ impl<'out, 'prompt, W: Renderer, H: Helper, P: Prompt, S: History> EditorState
     ghost draft = { λ s. record {
       line = s.line.edited.line;
       saved = s.line.saved_line_for_history;
-      index = ⟦<Parties<'out, H, S> as Consulted>⟧.index s.parties;
+      index = ⟦<HelperContext<'out, H, S> as Consulted>⟧.index s.context;
       hint = option_map (suggestion_of H.Hint.Hint) s.line.hint;
       changes = s.line.edited.changes;
     } };
 
-    ghost environment = { λ s. ⟦<Parties<'out, H, S> as Consulted>⟧.environment s.parties };
+    ghost environment = { λ s. ⟦<HelperContext<'out, H, S> as Consulted>⟧.environment s.context };
 
     ghost display = { λ s. ⟦<View<'out, 'prompt, W, P> as Drawn>⟧.display s.view };
 
     ghost loan = { λ s. (
       ⟦<View<'out, 'prompt, W, P> as Drawn>⟧.loan s.view,
-      ⟦<Parties<'out, H, S> as Consulted>⟧.loan s.parties,
+      ⟦<HelperContext<'out, H, S> as Consulted>⟧.loan s.context,
     ) };
 
-    ghost sure = { λ s. ⟦<Parties<'out, H, S> as Consulted>⟧.sure s.parties };
+    ghost sure = { λ s. ⟦<HelperContext<'out, H, S> as Consulted>⟧.sure s.context };
 
     ghost failures = { λ s. ⟦<View<'out, 'prompt, W, P> as Drawn>⟧.failures s.view };
 
@@ -202,7 +202,7 @@ impl<'out, 'prompt, W: Renderer, H: Helper, P: Prompt, S: History> State<
             alloc,
             line,
             view: View::new(out, prompt),
-            parties: Parties::new(helper, ctx),
+            context: HelperContext::new(helper, ctx),
         }
     }
 
@@ -252,14 +252,14 @@ impl<'out, 'prompt, W: Renderer, H: Helper, P: Prompt, S: History> State<
             IfSome result (λ h. (w.hint_at ≡ H.hint_at h.now)
             × (w.verdict_at ≡ Some (H.verdict_at h.now)) × (w.lights ≡ H.lights h.now)) }
     {
-        self.parties.helper()
+        self.context.helper()
     }
 
     /// Returns the history.
     pub fn history(&self) -> &S
         ensures { S.lines result.now ≡ (⟦<Self as EditorState>⟧.environment self.now).lines }
     {
-        self.parties.history()
+        self.context.history()
     }
 
     /// Returns the history index: which line of the history is edited. For the line that is being
@@ -268,7 +268,7 @@ impl<'out, 'prompt, W: Renderer, H: Helper, P: Prompt, S: History> State<
         ensures within { result ≤ length (⟦<Self as EditorState>⟧.environment self.now).lines }
         ensures value { result ≡ (⟦<Self as EditorState>⟧.draft self.now).index }
     {
-        self.parties.history_index()
+        self.context.history_index()
     }
 
     /// Returns whether the line was last drawn after its own prompt.
@@ -296,7 +296,7 @@ impl<'out, 'prompt, W: Renderer, H: Helper, P: Prompt, S: History> State<
             (is_sure (e.sure self.old) for_hint ≡ true → ⊥)
             (e.failures self.old) (e.failures self.new) }
     {
-        self.line.hint = self.parties.hint(self.alloc, self.line.edited.line())?;
+        self.line.hint = self.context.hint(self.alloc, self.line.edited.line())?;
         Ok(())
     }
 
@@ -313,7 +313,7 @@ impl<'out, 'prompt, W: Renderer, H: Helper, P: Prompt, S: History> State<
         ensures frame { Frame ⟦<Self as EditorState>⟧ self.old self.new }
     {
         if self.view.colors_enabled() {
-            let lit = self.parties.highlight_char(self.line.edited.line(), kind);
+            let lit = self.context.highlight_char(self.line.edited.line(), kind);
             self.view.set_highlight_char(lit);
         }
     }
@@ -431,7 +431,7 @@ impl<'out, 'prompt, W: Renderer, H: Helper, P: Prompt, S: History> State<
         self.view.refresh_line(
             self.line.edited.line(),
             info_text(info, &self.line.hint),
-            self.parties.highlighter(colors),
+            self.context.highlighter(colors),
         )
     }
 }
@@ -460,7 +460,7 @@ impl<'out, 'prompt, W: Renderer, H: Helper, P: Prompt, S: History> Refresher
             prompt,
             self.line.edited.line(),
             info_text(Info::Hint, &self.line.hint),
-            self.parties.highlighter(colors),
+            self.context.highlighter(colors),
         )
     }
 

@@ -7,11 +7,11 @@ pub mod consulted;
 pub mod context;
 mod escaped_line;
 pub mod helper;
+pub mod helper_context;
 pub mod highlight;
 pub mod hint;
 pub mod history;
 pub mod laws;
-pub mod parties;
 pub mod validate;
 
 pub use completion::{
@@ -22,6 +22,7 @@ pub use consulted::Consulted;
 pub use context::Context;
 pub use escaped_line::{Escapes, push_escaped_line, unescape_line};
 pub use helper::{Helper, HintsAndBrackets, Parts};
+pub use helper_context::HelperContext;
 pub use highlight::{
     CmdKind, DimHints, Highlighter, MatchingBracketHighlighter, SteadyHighlighter,
 };
@@ -29,5 +30,4 @@ pub use hint::{Hint, Hinter, HistoryHinter};
 pub use history::{
     DefaultHistory, FileHistory, History, MemHistory, SearchDirection, SearchResult,
 };
-pub use parties::Parties;
 pub use validate::{MatchingBracketValidator, ValidationContext, ValidationResult, Validator};

@@ -35,7 +35,7 @@ impl<'out, 'prompt, W: Renderer, H: Helper, P: Prompt, S: History> State<
             (record { start = r.0; offers = map (offer_of H.Candidate.Candidate) r.1.items })) }
         ensures faults { FaultsOnly result }
     {
-        self.parties.complete(self.alloc, self.line.edited.line())
+        self.context.complete(self.alloc, self.line.edited.line())
     }
 
     /// Puts the text of an elected candidate in place of what stands from byte `start` to the
@@ -67,7 +67,7 @@ impl<'out, 'prompt, W: Renderer, H: Helper, P: Prompt, S: History> State<
         }
         let _ = self.line.edited.end_groups()?;
         self.line.edited.begin_group()?;
-        let elects = match self.parties.helper() {
+        let elects = match self.context.helper() {
             Some(helper) => self.line.edited.elect(helper, start, elected),
             None => self.line.edited.elect(&(), start, elected),
         };

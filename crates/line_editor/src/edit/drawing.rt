@@ -30,7 +30,7 @@ impl<'out, 'prompt, W: Renderer, H: Helper, P: Prompt, S: History> State<
         ensures { let e = ⟦<Self as EditorState>⟧ in is_some result
             ≡ ((e.display self.now).surface.colors && is_some (e.environment self.now).verdict_at) }
     {
-        self.parties.highlighter(self.view.colors_enabled())
+        self.context.highlighter(self.view.colors_enabled())
     }
 
     /// Draws the line again after its own prompt. `All` draws it in full, with the hint that is
@@ -75,7 +75,7 @@ impl<'out, 'prompt, W: Renderer, H: Helper, P: Prompt, S: History> State<
         self.view.repaint_kept(
             self.line.edited.line(),
             info_text(info, &self.line.hint),
-            self.parties.highlighter(colors),
+            self.context.highlighter(colors),
         )
     }
 
@@ -165,7 +165,7 @@ impl<'out, 'prompt, W: Resizable, H: Helper, P: Prompt, S: History> State<
             rows,
             self.line.edited.line(),
             info_text(Info::Hint, &self.line.hint),
-            self.parties.highlighter(colors),
+            self.context.highlighter(colors),
         )
     }
 }

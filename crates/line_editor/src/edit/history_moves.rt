@@ -102,7 +102,7 @@ impl<'out, 'prompt, W: Renderer, H: Helper, P: Prompt, S: History> State<
         ensures undrawn { Undrawn ⟦<Self as EditorState>⟧ self.old self.new }
         ensures faults { FaultsOnly result }
     {
-        let history = self.parties.history();
+        let history = self.context.history();
         let Some(found) = history.get(index, SearchDirection::Reverse)? else {
             return Ok(false);
         };
@@ -113,7 +113,7 @@ impl<'out, 'prompt, W: Renderer, H: Helper, P: Prompt, S: History> State<
         self.line
             .edited
             .update_in_group(text, boundary_or_end(text, pos))?;
-        self.parties.set_history_index(index);
+        self.context.set_history_index(index);
         Ok(grown)
     }
 
@@ -128,8 +128,8 @@ impl<'out, 'prompt, W: Renderer, H: Helper, P: Prompt, S: History> State<
         if self.line.edited.line().as_str().is_char_boundary(pos) {
             self.line.edited.set_pos(pos);
         }
-        let end = self.parties.history().len();
-        self.parties.set_history_index(index.min(end));
+        let end = self.context.history().len();
+        self.context.set_history_index(index.min(end));
     }
 
     /// Shows the line of the history before this one where `prev` is true, and else the one after
@@ -211,7 +211,7 @@ impl<'out, 'prompt, W: Renderer, H: Helper, P: Prompt, S: History> State<
                 self.search_from(index - 1, dir)
             }
             SearchDirection::Forward => {
-                if index == self.parties.history().len() {
+                if index == self.context.history().len() {
                     return self.beep();
                 }
                 self.search_from(index + 1, dir)
@@ -240,7 +240,7 @@ impl<'out, 'prompt, W: Renderer, H: Helper, P: Prompt, S: History> State<
             commands.next_history }
     {
         let index = self.place();
-        let end = self.parties.history().len();
+        let end = self.context.history().len();
         if index == end {
             return Ok(());
         }
@@ -268,7 +268,7 @@ impl<'out, 'prompt, W: Renderer, H: Helper, P: Prompt, S: History> State<
         ensures { DoesCommand ⟦<Self as EditorState>⟧ result self.old self.new
             commands.end_of_history }
     {
-        if self.place() == self.parties.history().len() {
+        if self.place() == self.context.history().len() {
             return Ok(());
         }
         self.come_back()
@@ -295,7 +295,7 @@ impl<'out, 'prompt, W: Renderer, H: Helper, P: Prompt, S: History> State<
         ensures undrawn { Undrawn ⟦<Self as EditorState>⟧ self.old self.new }
         ensures memory { MemoryOnly result }
     {
-        if self.place() == self.parties.history().len() {
+        if self.place() == self.context.history().len() {
             self.backup()?;
         }
         Ok(())
@@ -322,7 +322,7 @@ impl<'out, 'prompt, W: Renderer, H: Helper, P: Prompt, S: History> State<
             DoesAsking e for_line result self.old self.new
             (line_shown (e.environment self.old) index (e.draft self.old)) with_hint 1 }
     {
-        let history = self.parties.history();
+        let history = self.context.history();
         let Some(found) = history.get(index, SearchDirection::Reverse)? else {
             return Ok(());
         };
@@ -340,7 +340,7 @@ impl<'out, 'prompt, W: Renderer, H: Helper, P: Prompt, S: History> State<
             (showing (e.environment self.old) text.now pos d) with_hint 1 }
     {
         self.line.edited.update_in_group(text, pos)?;
-        self.parties.set_history_index(index);
+        self.context.set_history_index(index);
         self.refresh_line()
     }
 
@@ -350,8 +350,8 @@ impl<'out, 'prompt, W: Renderer, H: Helper, P: Prompt, S: History> State<
             (come_back (e.environment self.old) (e.draft self.old)) with_hint 1 }
     {
         self.restore()?;
-        let end = self.parties.history().len();
-        self.parties.set_history_index(end);
+        let end = self.context.history().len();
+        self.context.set_history_index(end);
         self.refresh_line()
     }
 
@@ -368,8 +368,8 @@ impl<'out, 'prompt, W: Renderer, H: Helper, P: Prompt, S: History> State<
     {
         let line = self.line.edited.line();
         let before = &line.as_str()[..line.pos()];
-        let Some(found) = self.parties.history().starts_with(before, index, dir)? else {
-            self.parties.set_history_index(index);
+        let Some(found) = self.context.history().starts_with(before, index, dir)? else {
+            self.context.set_history_index(index);
             return self.beep();
         };
         self.show_text(found.entry.as_str(), found.pos, found.idx)

@@ -9,7 +9,7 @@ use crate::edit::State;
 use line_buffer::LineBuffer;
 use line_config::Prompt;
 use line_keys::editor_state::EditorState;
-use line_parts::parties::Parties;
+use line_parts::helper_context::HelperContext;
 use line_parts::{Context, Helper, History};
 use line_state::{DrawnLine, EditedLine, Renderer, ScreenState, View};
 use std::alloc::Global;
@@ -108,10 +108,10 @@ impl<'out, 'prompt, W: Renderer, H: Helper, P: Prompt, S: History> State<
             alloc: _,
             line,
             view,
-            parties,
+            context,
         } = self;
         let (drawn, out, _) = view.release();
-        let (helper, ctx) = parties.release();
+        let (helper, ctx) = context.release();
         let history_index = ctx.history_index();
         let kept = KeptLine {
             line,
@@ -155,7 +155,7 @@ impl<'out, 'prompt, W: Renderer, H: Helper, P: Prompt, S: History> State<
             alloc,
             line,
             view: View::resume(drawn, out, prompt),
-            parties: Parties::new(helper, ctx),
+            context: HelperContext::new(helper, ctx),
         }
     }
 }

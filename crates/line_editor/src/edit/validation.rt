@@ -48,7 +48,7 @@ impl<'out, 'prompt, W: Renderer, H: Helper, P: Prompt, S: History> State<
         ensures no_hint { let e = ⟦<Self as EditorState>⟧ in
             OnOk result (ShowsNoHint e self.old → ShowsNoHint e self.new) }
     {
-        if !self.parties.has_validator() {
+        if !self.context.has_validator() {
             return Ok(ValidationResult::Valid(None));
         }
         let (verdict, corrected) = self.ask_verdict()?;
@@ -71,7 +71,7 @@ impl<'out, 'prompt, W: Renderer, H: Helper, P: Prompt, S: History> State<
             OnOk result (ShowsNoHint e self.old → ShowsNoHint e self.new) }
     {
         self.line.edited.begin_group()?;
-        let verdict = self.parties.validate(self.alloc, self.line.edited.line());
+        let verdict = self.context.validate(self.alloc, self.line.edited.line());
         let corrected = self.line.edited.end_groups()?;
         Ok((verdict?, corrected))
     }

@@ -1,9 +1,9 @@
-//! Errors of a helper or a history, handed on by `Parties`, which an editor asks.
+//! Errors of a helper or a history, handed on by `HelperContext`, which an editor asks.
 
 use crate::ready::{broken_history, is_hint, said};
 use line_buffer::LineBuffer;
 use line_config::Result;
-use line_parts::{Context, Helper, History, Parties};
+use line_parts::{Context, Helper, HelperContext, History};
 use std::alloc::Global;
 use std::process::Abort;
 use tests_parties::advisor::{Advisor, Verdict};
@@ -18,17 +18,17 @@ pub(super) enum Answer {
 
 /// Whether a line is answered so.
 fn answered<H: Helper, S: History>(
-    parties: &Parties<'_, H, S>,
+    context: &HelperContext<'_, H, S>,
     alloc: Global,
     line: &LineBuffer,
     wanted: Answer,
 ) -> Result<bool> {
     match wanted {
-        Answer::Hint(hint) => match parties.hint(alloc, line) {
+        Answer::Hint(hint) => match context.hint(alloc, line) {
             Ok(found) => Ok(is_hint(&found, hint)),
             Err(error) => Err(error),
         },
-        Answer::Verdict(name, message) => match parties.validate(alloc, line) {
+        Answer::Verdict(name, message) => match context.validate(alloc, line) {
             Ok(verdict) => Ok(said(&verdict) == (name, message)),
             Err(error) => Err(error),
         },
@@ -47,16 +47,16 @@ pub(super) fn answers<H: Helper>(
     fault: Option<Fault>,
 ) -> bool {
     let history = broken_history(alloc);
-    let parties = Parties::new(helper, Context::new(&history));
+    let context = HelperContext::new(helper, Context::new(&history));
     if !text.is_char_boundary(text.len()) {
         return false;
     }
     let line = LineBuffer::init(alloc, text, text.len()).expect(rt, "no fault");
     let comes = match fault {
-        Some(fault) => fault.is_answer(alloc, &answered(&parties, alloc, &line, wanted)),
+        Some(fault) => fault.is_answer(alloc, &answered(&context, alloc, &line, wanted)),
         None => Ok(true),
     };
-    let again = answered(&parties, alloc, &line, wanted).expect(rt, "no fault");
+    let again = answered(&context, alloc, &line, wanted).expect(rt, "no fault");
     again && comes.expect(rt, "no fault")
 }
 

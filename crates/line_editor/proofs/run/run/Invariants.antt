@@ -16,17 +16,17 @@ editor_state g = record {
   draft = λ s. record {
     line = s.line.edited.line;
     saved = s.line.saved_line_for_history;
-    index = s.parties.ctx.index;
+    index = s.context.ctx.index;
     hint = option_map (suggestion_of g.H.Hint.Hint) s.line.hint;
     changes = s.line.edited.changes;
   };
   environment = λ s. record {
-    hint_at = hint_by g.H.Hinter.hint_at s.parties.helper;
-    verdict_at = verdict_by g.H.Validator.verdict_at s.parties.helper;
-    lights = lights_by g.H.Highlighter.lights s.parties.helper;
-    own_completion = completion_by g.H.Completer.own_completion s.parties.helper;
-    own_update = update_by g.H.Completer.own_update s.parties.helper;
-    lines = g.S.History.lines s.parties.ctx.history;
+    hint_at = hint_by g.H.Hinter.hint_at s.context.helper;
+    verdict_at = verdict_by g.H.Validator.verdict_at s.context.helper;
+    lights = lights_by g.H.Highlighter.lights s.context.helper;
+    own_completion = completion_by g.H.Completer.own_completion s.context.helper;
+    own_update = update_by g.H.Completer.own_update s.context.helper;
+    lines = g.S.History.lines s.context.ctx.history;
   };
   display = λ s. record {
     surface = g.W.ScreenState.surface s.view.out.now;
@@ -36,8 +36,8 @@ editor_state g = record {
     screen = g.W.ScreenState.screen s.view.out.now;
     lit = s.view.drawn.highlight_char;
   };
-  loan = λ s. (s.view.out.ghost_name, option_map (λ h. h.ghost_name) s.parties.helper);
-  sure = λ s. sure_by g.H.Hinter.sure g.H.Validator.sure (g.S.History.sure s.parties.ctx.history) s.parties.helper;
+  loan = λ s. (s.view.out.ghost_name, option_map (λ h. h.ghost_name) s.context.helper);
+  sure = λ s. sure_by g.H.Hinter.sure g.H.Validator.sure (g.S.History.sure s.context.ctx.history) s.context.helper;
   failures = λ s. g.W.ScreenState.failures s.view.out.now;
   redraws = λ s. g.W.ScreenState.redraws s.view.out.now;
 }

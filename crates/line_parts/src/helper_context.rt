@@ -1,4 +1,4 @@
-//! Those who are asked about a line: the helper, if there is one, and the history.
+//! A helper and the context that it is asked in.
 ghost use Rattle.std.specs.Prelude.{◌≡◌, ◌≤◌, ◌&&◌, true, false};
 ghost use Rattle.std.specs.Prelude.{is_some, length, map, option_map, IfOk, IfSome, MatchOption, Some};
 ghost use Rattle.line_config.specs.Usual.{IsUsualOrOwn};
@@ -23,20 +23,20 @@ use line_buffer::LineBuffer;
 use line_config::Result;
 use std::alloc::Global;
 
-/// Those who are asked about a line: the helper, if there is one, and the history with the
-/// index of the line in it.
-pub struct Parties<'out, H: Helper, S: History> {
+/// A helper, if there is one, and the context that it is asked in: the history, and the index of the
+/// line in it.
+pub struct HelperContext<'out, H: Helper, S: History> {
     helper: Option<&'out mut H>,
     ctx: Context<'out, S>,
 }
 
-impl<H: Helper, S: History> Drop for Parties<'_, H, S> {
+impl<H: Helper, S: History> Drop for HelperContext<'_, H, S> {
     fn drop(self) {
-        let Parties { helper: _, ctx: _ } = self;
+        let HelperContext { helper: _, ctx: _ } = self;
     }
 }
 
-impl<'out, H: Helper, S: History> Consulted for Parties<'out, H, S> {
+impl<'out, H: Helper, S: History> Consulted for HelperContext<'out, H, S> {
     ghost environment = { λ p. environment_by H.hint_at H.verdict_at H.lights H.Completer
         p.helper (S.lines p.ctx.history) };
 
@@ -59,7 +59,7 @@ fn visible_hint<T: Hint + Drop>(hint: Option<T>) -> Option<T>
     }
 }
 
-impl<'out, H: Helper, S: History> Parties<'out, H, S> {
+impl<'out, H: Helper, S: History> HelperContext<'out, H, S> {
     /// Returns those who are asked about a line at the position `ctx` in the history.
     pub fn new(helper: Option<&'out mut H>, ctx: Context<'out, S>) -> Self
         ensures environment { ⟦<Self as Consulted>⟧.environment result ≡ environment_by
@@ -70,7 +70,7 @@ impl<'out, H: Helper, S: History> Parties<'out, H, S> {
         ensures loan { ⟦<Self as Consulted>⟧.loan result
             ≡ option_map (λ h. h.ghost_name) helper.entry }
     {
-        Parties { helper, ctx }
+        HelperContext { helper, ctx }
     }
 
     /// Returns the helper, if there is one, and the position in the history, which answer as they
@@ -84,7 +84,7 @@ impl<'out, H: Helper, S: History> Parties<'out, H, S> {
         ensures loan { option_map (λ h. h.ghost_name) result.0
             ≡ ⟦<Self as Consulted>⟧.loan self.entry }
     {
-        let Parties { helper, ctx } = self;
+        let HelperContext { helper, ctx } = self;
         (helper, ctx)
     }
 
