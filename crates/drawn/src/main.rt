@@ -4,7 +4,7 @@
 #![tactic(auto)]
 
 mod cells;
-mod told;
+mod printed;
 mod turns;
 
 use std::io;

@@ -2,7 +2,7 @@
 
 ghost use Rattle.std.specs.Prelude.{◌<◌, IfSome};
 
-use crate::told::Told;
+use crate::printed::Printed;
 use line_buffer::{GraphemeClusterMode, KillRing, Unit};
 use line_config::{Config, Prompt, ReadlineError, Result};
 use line_editor::edit::State;
@@ -76,7 +76,7 @@ fn parsed(alloc: Global, script: &[u8]) -> Result<Parsed> {
 
 /// Takes the turns of a script on a screen, after a prompt in bold green, and prints what it tells
 /// of each. A turn that fails ends the run.
-fn print_run<W: Told + Drop, O: Write>(
+fn print_run<W: Printed + Drop, O: Write>(
     alloc: Global,
     mut screen: W,
     parsed: &mut Parsed,
@@ -96,12 +96,19 @@ fn print_run<W: Told + Drop, O: Write>(
     let helper = Some(&mut parsed.helper);
     let mut state = State::new(alloc, &mut screen, &prompt, helper, context)?;
     state.refresh_line()?;
-    let mut told = 0;
+    let mut printed = 0;
     for turn in 1..u64::MAX {
         let columns = resize_before(turn, first, other);
         let items = &mut parsed.items;
         if !take(
-            &mut state, &mut input, items, &mut kills, &config, columns, &mut told, out,
+            &mut state,
+            &mut input,
+            items,
+            &mut kills,
+            &config,
+            columns,
+            &mut printed,
+            out,
         )? {
             break;
         }
@@ -127,22 +134,22 @@ fn resize_before(turn: u64, first: Unit, other: Unit) -> Option<Unit>
 
 /// Prints what the last turn did, and what a resize to these columns does, if there is one; and
 /// takes the next turn. Returns whether the line goes on.
-fn take<'out, 'prompt, W: Told, H: Helper, P: Prompt, S: History, O: Write>(
+fn take<'out, 'prompt, W: Printed, H: Helper, P: Prompt, S: History, O: Write>(
     state: &mut State<'out, 'prompt, W, H, P, S>,
     input: &mut InputState<'_>,
     items: &mut Script,
     kills: &mut KillRing,
     config: &Config,
     columns: Option<Unit>,
-    told: &mut usize,
+    printed: &mut usize,
     out: &mut O,
 ) -> Result<bool>
     requires { IfSome columns (λ columns. 0 < columns) }
 {
-    *told = state.out().tell(false, *told, out)?;
+    *printed = state.out().print(false, *printed, out)?;
     if let Some(columns) = columns {
         state.resized(columns, ROWS)?;
-        *told = state.out().tell(true, *told, out)?;
+        *printed = state.out().print(true, *printed, out)?;
     }
     let turned = advance(state, input, items, kills, config);
     Ok(matches!(turned, Ok(Turned::Proceeds)))

@@ -32,6 +32,16 @@ macro_rules! on_session {
     }};
 }
 
+/// Takes bytes of the session that a handle holds by a call of it, and reports how many.
+macro_rules! take_bytes {
+    ($handle:ident, $alloc:ident, $buffer:ident, $taken:ident, $take:ident) => {
+        on_session!($handle, $alloc, |session| {
+            *$taken = session.$take($buffer);
+            Status::Done
+        })
+    };
+}
+
 /// Makes a session in a handle that holds none.
 #[unsafe(no_mangle)]
 pub extern "C" fn line_c_new(settings: &Settings, handle: &mut Handle, alloc: Global) -> u32
@@ -179,10 +189,7 @@ pub extern "C" fn line_c_output(
     ensures none { IfNone handle.old.session
         ((buffer.new ≡ buffer.old) × (taken.new ≡ taken.old)) }
 {
-    on_session!(handle, alloc, |session| {
-        *taken = session.take_output(buffer);
-        Status::Done
-    })
+    take_bytes!(handle, alloc, buffer, taken, take_output)
 }
 
 /// Copies the text of the line that goes on, or else of the one that was submitted last. Reports
@@ -257,10 +264,7 @@ pub extern "C" fn line_c_saved(
     ensures none { IfNone handle.old.session
         ((buffer.new ≡ buffer.old) × (taken.new ≡ taken.old)) }
 {
-    on_session!(handle, alloc, |session| {
-        *taken = session.take_saved(buffer);
-        Status::Done
-    })
+    take_bytes!(handle, alloc, buffer, taken, take_saved)
 }
 
 /// Completes words by those of a text from now on, one a line.

@@ -17,12 +17,12 @@ pub record TakesOutput (had has buffer filled : List ℕ) (count : ℕ) : Type 0
   pub takes : TakesBytes bytes has buffer filled count
 
 -- a text was copied into a buffer, where it has room for all of it, and else nothing was; its length is reported
-pub record Copies (text buffer filled : List ℕ) (told : ℕ) (came : Status) : Type 0 where
-  pub tells : told ≡ length text
+pub record Copies (text buffer filled : List ℕ) (reported : ℕ) (came : Status) : Type 0 where
+  pub tells : reported ≡ length text
   pub copied : MatchBool (nat_le (length text) (length buffer))
-      ((came ≡ status.Done) × (take told filled ≡ text) × (drop told filled ≡ drop told buffer)) ((came ≡ status.TooSmall) × (filled ≡ buffer))
+      ((came ≡ status.Done) × (take reported filled ≡ text) × (drop reported filled ≡ drop reported buffer)) ((came ≡ status.TooSmall) × (filled ≡ buffer))
 
 -- the same, if there is a text
 abbrev pub CopiesIfAny : Option (List ℕ) → List ℕ → List ℕ → ℕ → Status → Type 0
-CopiesIfAny (Some text) buffer filled told came = Copies text buffer filled told came
-CopiesIfAny None buffer filled told came = (came ≡ status.NoLine) × (filled ≡ buffer) × (told ≡ 0)
+CopiesIfAny (Some text) buffer filled reported came = Copies text buffer filled reported came
+CopiesIfAny None buffer filled reported came = (came ≡ status.NoLine) × (filled ≡ buffer) × (reported ≡ 0)

@@ -57,7 +57,7 @@ module _ {H : Type 0} where
 
   -- the line is dropped, which this status reports; or there was a fault, and the line is drawn anew at the next call
   abbrev pub Drops : Status → Hosted H → Hosted H → Status → Type 0
-  Drops told old new came = ((came ≡ told) × (new ≡ with_editor (record old.editor { line = None }) old))
+  Drops asked old new came = ((came ≡ asked) × (new ≡ with_editor (record old.editor { line = None }) old))
       ⊎ (ReportsFault came × (new ≡ with_editor (to_be_drawn old.editor) old))
 
   -- the line that goes on is dropped, if one does
@@ -97,8 +97,8 @@ module _ {H : Type 0} where
 
   -- the cursor of the line that goes on was reported, if one does
   abbrev pub TellsCursor : Hosted H → ℕ → ℕ → Status → Type 0
-  TellsCursor session before told came = MatchOption session.editor.line ((came ≡ status.NoLine) × (told ≡ before))
-      (λ begun. (came ≡ status.Done) × (told ≡ begun.kept.draft.line.cursor))
+  TellsCursor session before reported came = MatchOption session.editor.line ((came ≡ status.NoLine) × (reported ≡ before))
+      (λ begun. (came ≡ status.Done) × (reported ≡ begun.kept.draft.line.cursor))
 
   -- some keys were bound to some command, in place of what they were bound to, if these are texts; or nothing was
   pub record BindsKeys (keys command : List ℕ) (old new : Hosted H) (came : Status) : Type 0 where
@@ -140,10 +140,10 @@ module _ {H : Type 0} where
     -- the end of all bytes was read, and turns taken; a line that would go on ends
     pub record Finishes (turn : DecoderTurn) (old new : Hosted H) (came : Status) : Type 0 where
       pub left : Hosted H
-      pub told : Status
-      pub takes : ReadsItems turn old left told
-      pub ends : told ≡ status.Done → Drops status.Ended left new came
-      pub stands : told ≢ status.Done → (came ≡ told) × (new ≡ left)
+      pub read : Status
+      pub takes : ReadsItems turn old left read
+      pub ends : read ≡ status.Done → Drops status.Ended left new came
+      pub stands : read ≢ status.Done → (came ≡ read) × (new ≡ left)
 
     -- columns and rows are the new ones, unless there are no columns; the line that goes on, if one does, stays, and so does all else
     pub record ResizesSession (columns rows : ℕ) (old new : Hosted H) (came : Status) : Type 0 where

@@ -67,10 +67,10 @@ fn copy_start(bytes: &[u8], buffer: &mut [u8]) -> usize
 }
 
 /// Copies a text into a buffer, where that has room for all of it. Reports its length in any case.
-pub(crate) fn copy_text(text: &str, buffer: &mut [u8], told: &mut usize) -> Status
-    ensures { Copies text.now buffer.old buffer.new told.new result }
+pub(crate) fn copy_text(text: &str, buffer: &mut [u8], len: &mut usize) -> Status
+    ensures { Copies text.now buffer.old buffer.new len.new result }
 {
-    *told = text.len();
+    *len = text.len();
     if text.len() > buffer.len() {
         return Status::TooSmall;
     }

@@ -157,7 +157,7 @@ impl Session {
     {
         match self.hear(Heard::End) {
             Status::Done => self.end(Status::Ended),
-            told => told,
+            status => status,
         }
     }
 
@@ -176,13 +176,13 @@ impl Session {
 
     /// Drops the line that goes on, if one does. Returns this status, or a fault: the line goes on
     /// then, and is drawn at the next call.
-    fn end(&mut self, told: Status) -> Status
-        ensures { Drops told self.old self.new result }
+    fn end(&mut self, status: Status) -> Status
+        ensures { Drops status self.old self.new result }
     {
         if let Err(error) = self.editor.abandon() {
             return Status::of_error(error);
         }
-        told
+        status
     }
 
     /// Reads what is heard of the terminal.
@@ -277,12 +277,12 @@ impl Session {
     ///
     /// Returns `Done`; `TooSmall`, where the buffer has no room for all of it; or `NoLine`, where
     /// no line goes on and none was submitted. Nothing is copied then.
-    pub fn copy_line(&self, buffer: &mut [u8], told: &mut usize) -> Status
-        ensures { CopiesIfAny (line_of self.now) buffer.old buffer.new told.new result }
+    pub fn copy_line(&self, buffer: &mut [u8], len: &mut usize) -> Status
+        ensures { CopiesIfAny (line_of self.now) buffer.old buffer.new len.new result }
     {
-        *told = 0;
+        *len = 0;
         match self.line() {
-            Some(line) => copy_text(line, buffer, told),
+            Some(line) => copy_text(line, buffer, len),
             None => Status::NoLine,
         }
     }
@@ -301,13 +301,13 @@ impl Session {
     /// Reports the cursor of the line that goes on: a byte offset, on a character boundary.
     ///
     /// Returns `Done`, or `NoLine`, where no line goes on, and nothing is reported then.
-    pub fn tell_cursor(&self, told: &mut usize) -> Status
-        ensures { TellsCursor self.now told.old told.new result }
+    pub fn tell_cursor(&self, cursor: &mut usize) -> Status
+        ensures { TellsCursor self.now cursor.old cursor.new result }
     {
-        let Some(cursor) = self.editor.pos() else {
+        let Some(pos) = self.editor.pos() else {
             return Status::NoLine;
         };
-        *told = cursor;
+        *cursor = pos;
         Status::Done
     }
 

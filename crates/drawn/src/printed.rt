@@ -9,28 +9,28 @@ use line_term::Ansi;
 use std::io::Write;
 
 /// A screen that prints what a turn did.
-pub trait Told: Renderer<Reader = Script> + Resizable {
-    /// Prints what was written after the first `told` bytes, or what is shown; and before it that
+pub trait Printed: Renderer<Reader = Script> + Resizable {
+    /// Prints what was written after the first `printed` bytes, or what is shown; and before it that
     /// the screen was resized, where it was and this is to be printed. Returns how many bytes there
     /// are.
-    fn tell<O: Write>(&self, resized: bool, told: usize, out: &mut O) -> Result<usize>;
+    fn print<O: Write>(&self, resized: bool, printed: usize, out: &mut O) -> Result<usize>;
 }
 
-impl Told for Ansi<Vec<u8>, Script> {
-    fn tell<O: Write>(&self, resized: bool, told: usize, out: &mut O) -> Result<usize> {
+impl Printed for Ansi<Vec<u8>, Script> {
+    fn print<O: Write>(&self, resized: bool, printed: usize, out: &mut O) -> Result<usize> {
         if resized {
             writeln!(out, "resize {}", self.get_columns())?;
         }
         let bytes = self.out();
         write!(out, "bytes ")?;
-        print_bytes(bytes.get(told..).unwrap_or(&[]), out)?;
+        print_bytes(bytes.get(printed..).unwrap_or(&[]), out)?;
         Ok(bytes.len())
     }
 }
 
-impl Told for Plain<Script> {
-    fn tell<O: Write>(&self, _resized: bool, told: usize, out: &mut O) -> Result<usize> {
+impl Printed for Plain<Script> {
+    fn print<O: Write>(&self, _resized: bool, printed: usize, out: &mut O) -> Result<usize> {
         print_cells(self, self.get_columns(), out)?;
-        Ok(told)
+        Ok(printed)
     }
 }
