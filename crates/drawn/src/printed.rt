@@ -10,9 +10,9 @@ use std::io::Write;
 
 /// A screen that prints what a turn did.
 pub trait Printed: Renderer<Reader = Script> + Resizable {
-    /// Prints what was written after the first `printed` bytes, or what is shown; and before it that
-    /// the screen was resized, where it was and this is to be printed. Returns how many bytes there
-    /// are.
+    /// Prints what was written after the first `printed` bytes, or what is shown; and before it
+    /// that the screen was resized, where it was and this is to be printed. Returns how many bytes
+    /// there are.
     fn print<O: Write>(&self, resized: bool, printed: usize, out: &mut O) -> Result<usize>;
 }
 

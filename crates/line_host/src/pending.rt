@@ -1,5 +1,5 @@
 //! Bytes that wait to be written to a terminal.
-ghost use Rattle.std.specs.Prelude.{◌≡◌};
+ghost use Rattle.std.specs.Prelude.{◌≡◌, []};
 
 use crate::pieces::Pieces;
 use std::alloc::Global;
@@ -17,6 +17,14 @@ impl Pending {
         Pending {
             bytes: Vec::new(alloc),
         }
+    }
+
+    /// Returns no bytes, and keeps those that are written in the memory of these, which are dropped.
+    pub fn reusing(mut memory: Vec<u8>) -> Pending
+        ensures { result.bytes.items ≡ [] }
+    {
+        memory.clear();
+        Pending { bytes: memory }
     }
 
     /// Returns the bytes, of which none was taken.

@@ -43,6 +43,14 @@ impl Pieces {
         self.taken == self.bytes.len()
     }
 
+    /// Returns the bytes, those that were taken too.
+    pub fn into_bytes(self) -> Vec<u8>
+        ensures { result ≡ self.bytes }
+    {
+        let Pieces { bytes, taken: _ } = self;
+        bytes
+    }
+
     /// Takes bytes from the front into `buffer`, as many as there are and it has room for. Returns
     /// how many were taken.
     pub fn take(&mut self, buffer: &mut [u8]) -> usize

@@ -22,6 +22,7 @@ use line_session::editor::{Editor, Fed, Heard};
 use std::alloc::Global;
 use std::io::ErrorKind;
 use std::marker::Model;
+use std::mem;
 
 /// What helps a session: words are completed; there are hints from the history, and brackets are
 /// checked and lit, each where it is switched on.
@@ -266,8 +267,9 @@ impl Session {
         ensures stays { self.new ≡ record self.old { output = self.new.output } }
     {
         if self.output.is_empty() {
-            let written = self.editor.exchange_out(Pending::new(self.alloc));
-            self.output = written.into_pieces();
+            let taken = mem::replace(&mut self.output, Pieces::new(self.alloc));
+            let pending = Pending::reusing(taken.into_bytes());
+            self.output = self.editor.exchange_out(pending).into_pieces();
         }
         self.output.take(buffer)
     }

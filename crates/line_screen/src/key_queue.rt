@@ -13,6 +13,7 @@ use std::alloc::Global;
 use std::collections::VecDeque;
 use std::io;
 use std::marker::Model;
+use std::mem;
 
 /// Something that is read.
 #[derive(Debug, Drop)]
@@ -123,17 +124,27 @@ impl KeyQueue {
         ensures { Appends result
             (input.key paste_start ∷ input.paste text.now ∷ []) self.old self.new }
     {
-        let start = KeyEvent(KeyCode::BracketedPasteStart, Modifiers::NONE);
-        let pasted = String::from_str(self.alloc, text)?;
-        self.append(VecDeque::from_array(self.alloc, [Item::Key(start), Item::Paste(pasted)])?)
+        let mut pasted = String::from_str(self.alloc, text)?;
+        self.append_paste(&mut pasted)
     }
 
-    /// Appends these items, all or none.
+    /// Appends the key that stands before a pasted text, and the text, which is moved out of `text`.
+    ///
+    /// # Errors
+    /// `Memory` if memory runs out. Nothing is then appended, and `text` stays.
     #[tactic(auto, using(crate::proofs::QueueLemmas::appended, crate::proofs::QueueLemmas::appended_behind))]
-    fn append(&mut self, mut items: VecDeque<Item>) -> Result<()>
-        ensures { Appends result (map item_of items.items) self.old self.new }
+    pub fn append_paste(&mut self, text: &mut String) -> Result<()>
+        ensures appends { Appends result
+            (input.key paste_start ∷ input.paste (string_bytes text.old) ∷ []) self.old self.new }
+        ensures moved { OnOk result (string_bytes text.new ≡ []) }
+        ensures stays { OnErr result (text.new ≡ text.old) }
     {
-        self.items.append(&mut items)?;
+        self.items.reserve(2)?;
+        // there is room, so these do not fail
+        let start = KeyEvent(KeyCode::BracketedPasteStart, Modifiers::NONE);
+        self.items.push_back(Item::Key(start))?;
+        let pasted = mem::replace(text, String::new(self.alloc));
+        self.items.push_back(Item::Paste(pasted))?;
         Ok(())
     }
 
