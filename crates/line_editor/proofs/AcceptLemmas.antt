@@ -24,7 +24,7 @@ use Rattle.line_editor.specs.Accept.{accepted, answer_at_end, replied, reply_to,
 use Rattle.line_editor.specs.Drawings.{asked_for_reply, asked_of, once_for, reply_drawn, reply_times, unhinted_drawn, validated_drawn, validated_times, verdict_drawn}
 use Rattle.line_editor.specs.Editor.{Answer, ended, proceeds, submitted}
 use Rattle.line_editor.specs.DraftEdits.{typed_in}
-use Rattle.line_editor.specs.Input.{Input}
+use Rattle.line_input.specs.Input.{Input}
 use Rattle.line_editor.specs.Outcomes.{DrawnAfter, Executed, Executes, editor_of, step_from}
 use Rattle.line_editor.specs.Status.{answer_of}
 use Rattle.line_editor.specs.declared.command.Status.{Status}
@@ -33,12 +33,14 @@ use Rattle.line_editor.specs.declared.command.Reply.{Reply}
 use Rattle.line_editor.specs.declared.command.Reply.TheVariants.{GoesOn, Stays, Submits}
 use Rattle.line_editor.specs.DrawnVerdict.{draws_verdict, draws_verdict_on, kind_of_verdict}
 use Rattle.line_editor.proofs.AskedLemmas.{fails_more, sure_all}
-use Rattle.line_editor.proofs.CommandLemmas.{draft_wrong, editor_with, executed_ok, fails_then, few_by, line_kept, line_then, perhaps_lit, perhaps_prompt, perhaps_redraws, twice_at_most}
-use Rattle.line_editor.proofs.CountLemmas.{rises_twice, rises_within}
+use Rattle.line_editor.proofs.CommandLemmas.{draft_wrong, editor_with, executed_ok, fails_then, few_by, perhaps_lit, perhaps_prompt, perhaps_redraws, twice_at_most}
+use Rattle.line_input.proofs.DrawnTwiceLemmas.{line_kept, line_then, frame_then}
+use Rattle.line_input.proofs.CountLemmas.{rises_twice, rises_within}
 use Rattle.line_editor.proofs.DoneLemmas.{line_after}
-use Rattle.line_editor.proofs.DrawnLemmas.{frame_then, hint_trails, keeps_then, no_hint_line, prompt_after, prompt_then}
+use Rattle.line_editor.proofs.DrawnLemmas.{hint_trails, keeps_then, no_hint_line, prompt_after, prompt_then}
 use Rattle.line_editor.proofs.EditLemmas.{was_validated}
-use Rattle.line_editor.proofs.FaultLemmas.{but_hint, fault_from, fault_halfway, fault_other, fault_unhinted, fault_within, same_draft, whole_text}
+use Rattle.line_input.proofs.DraftLemmas.{but_hint, same_draft, whole_text}
+use Rattle.line_editor.proofs.FaultLemmas.{fault_from, fault_halfway, fault_other, fault_unhinted, fault_within}
 
 -- the end of the input, where the hint was taken away
 pub ends_at : {X T : Type 0} (e : Ghosts X) (x : T) (old new : X) (input : Input) (indent : ℕ) (kills : Ring) (answer : Answer)

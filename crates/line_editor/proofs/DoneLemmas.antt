@@ -21,9 +21,11 @@ use Rattle.line_state.specs.Edited.{Edited}
 use Rattle.line_editor.specs.Editor.{with_edited}
 use Rattle.line_editor.specs.DraftEdits.{after_edit}
 use Rattle.line_editor.specs.Outcomes.{EditedOnIo, EditsThenDraws}
-use Rattle.line_editor.proofs.CountLemmas.{stays_then}
-use Rattle.line_editor.proofs.FaultLemmas.{but_hinted, fault_from, fault_shown, made_stays, whole_text}
-use Rattle.line_editor.proofs.DrawnLemmas.{drawn_stays, frame_then, hint_trails, keeps_move, keeps_then, prompt_after, prompt_same, right_after, way_after}
+use Rattle.line_input.proofs.CountLemmas.{stays_then}
+use Rattle.line_editor.proofs.FaultLemmas.{but_hinted, fault_from, fault_shown, made_stays}
+use Rattle.line_input.proofs.DraftLemmas.{whole_text}
+use Rattle.line_editor.proofs.DrawnLemmas.{drawn_stays, hint_trails, keeps_move, keeps_then, prompt_after, prompt_same, right_after, way_after}
+use Rattle.line_input.proofs.DrawnTwiceLemmas.{frame_then}
 
 -- what leaves all but the draft draws nothing
 pub nothing_drawn : {X : Type 0} (e : Ghosts X) (old new : X)

@@ -33,8 +33,10 @@ use Rattle.line_buffer.proofs.SearchLemmas.{front_range}
 use Rattle.line_state.proofs.EditedLemmas.{first_moved}
 use Rattle.line_editor.proofs.AskedLemmas.{does_more, sure_hint}
 use Rattle.line_editor.proofs.DoneLemmas.{Redrawn, does_after, edit_reported, undrawn_twice}
-use Rattle.line_editor.proofs.FaultLemmas.{fault_exact, fault_other, fault_stays, fault_wider, same_draft}
-use Rattle.line_editor.proofs.DrawnLemmas.{drawn_stays, frame_then, prompt_same}
+use Rattle.line_editor.proofs.FaultLemmas.{fault_exact, fault_other, fault_stays, fault_wider}
+use Rattle.line_input.proofs.DraftLemmas.{same_draft}
+use Rattle.line_editor.proofs.DrawnLemmas.{drawn_stays, prompt_same}
+use Rattle.line_input.proofs.DrawnTwiceLemmas.{frame_then}
 use Rattle.line_keys.specs.Model.Display.{Display}
 
 -- all stays

@@ -18,10 +18,11 @@ use Rattle.line_keys.specs.declared.cmd.Anchor.{Anchor}
 use Rattle.line_editor.specs.Accept.{replied, reply_to, unhinted_by, validated}
 use Rattle.line_editor.specs.declared.command.Reply.{Reply}
 use Rattle.line_editor.specs.declared.command.Reply.TheVariants as reply
-use Rattle.line_editor.specs.Editor.{Editor, Ruler, edited_of, measuring}
+use Rattle.line_editor.specs.Editor.{Editor, edited_of, measuring}
+use Rattle.line_input.specs.Ruler.{Ruler}
 use Rattle.line_editor.specs.DraftEdits.{after_edit, bracket_killed, bracket_replaced, completed, cursor_moved, kill_popped, kill_yanked, killed_by, perhaps_inserted, movement_replaced, typed_in}
 use Rattle.line_editor.specs.HistoryMoves.{come_back, first_shown, is_own_line, line_shown, next_shown, previous_shown, saved_at_end}
-use Rattle.line_editor.specs.Input.{Input, is_vi_command}
+use Rattle.line_input.specs.Input.{Input, is_vi_command}
 use Rattle.line_editor.specs.Laws.{ComingBack, after_commands, searches}
 use Rattle.line_editor.specs.Run.{ready}
 use Rattle.line_editor.specs.Step.{step}

@@ -33,18 +33,19 @@ use Rattle.line_keys.specs.declared.refresher.InputMode.TheVariants as modes
 use Rattle.line_keys.specs.declared.tables.Grouping.{Grouping}
 use Rattle.line_keys.specs.declared.tables.Grouping.TheVariants as groups
 use Rattle.line_state.specs.Edited.{undone}
-use Rattle.line_editor.specs.Editor.{Answer, Editor, Ruler, Step, edited_of, proceeds}
-use Rattle.line_editor.specs.Input.{Input, is_vi_command_mode}
-use Rattle.line_editor.specs.Keymap.{Keymap, bound_command, on_line}
+use Rattle.line_editor.specs.Editor.{Answer, Editor, Step, edited_of, proceeds}
+use Rattle.line_input.specs.Ruler.{Ruler}
+use Rattle.line_input.specs.Input.{Input, is_vi_command_mode}
+use Rattle.line_input.specs.Keymap.{Keymap, bound_command, on_line}
 use Rattle.line_editor.specs.Laws.{InsertionIsOneStep, IsFree, insertion_and_undo, insertion_chars}
-use Rattle.line_editor.specs.Phrase.{listed, of_mode, remembered_behind, with_group}
-use Rattle.line_editor.specs.Read.{Read, quiet_read, read_behind}
+use Rattle.line_input.specs.Phrase.{listed, of_mode, remembered_behind, with_group}
+use Rattle.line_input.specs.Read.{Read, quiet_read, read_behind}
 use Rattle.line_editor.specs.Run.{Run, Turn, Turns, dry, first, none, ready, runs_dry}
 use Rattle.line_editor.specs.Step.{step}
-use Rattle.line_editor.specs.Tail.{alone}
+use Rattle.line_input.specs.Tail.{alone}
 use Rattle.line_editor.proofs.EditLemmas.{moved_text}
 use Rattle.line_editor.proofs.GrownLemmas.{GrownBy, TakesBack, takes-back, typed-grows}
-use Rattle.line_editor.proofs.PhraseLemmas.{nothing-begins, row-read}
+use Rattle.line_input.proofs.PhraseLemmas.{nothing-begins, row-read}
 use Rattle.line_editor.proofs.RunLaws.{runs-fit}
 use Rattle.line_editor.proofs.TurnLaws.{turns-and-run}
 use Rattle.line_editor.proofs.UndoLaws.{edited_line}

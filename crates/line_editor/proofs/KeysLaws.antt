@@ -6,13 +6,14 @@ use Rattle.line_keys.specs.Model.Draft.{Draft}
 use Rattle.line_keys.specs.Item.{Item, key}
 use Rattle.line_keys.specs.declared.editor_state.EditorState as editors
 use Rattle.line_keys.specs.declared.raw_reader.RawReader as readers
-use Rattle.line_editor.specs.Editor.{Editor, Answer, Ruler}
-use Rattle.line_editor.specs.Input.{Input}
-use Rattle.line_editor.specs.Keymap.{Keymap}
+use Rattle.line_editor.specs.Editor.{Editor, Answer}
+use Rattle.line_input.specs.Ruler.{Ruler}
+use Rattle.line_input.specs.Input.{Input}
+use Rattle.line_input.specs.Keymap.{Keymap}
 use Rattle.line_editor.specs.Laws.{ExecutesNoMoreThanKeys, TurnsReadKeys}
 use Rattle.line_editor.specs.Outcomes.{Session, TakesTurns, and_turn, no_turn, turns_in}
-use Rattle.line_editor.specs.Phrase.{Phrase, behind_key, of_mode}
-use Rattle.line_editor.specs.Read.{Read}
+use Rattle.line_input.specs.Phrase.{Phrase, behind_key, of_mode}
+use Rattle.line_input.specs.Read.{Read}
 use Rattle.line_editor.specs.Run.{End, Run, Turn, goes_on, ends, runs_dry, commands_in, is_key, keys_in, unread}
 
 -- the keys of two lists, one behind the other

@@ -20,7 +20,8 @@ use Rattle.line_editor.specs.Outcomes.{DoesInTwoWithKills, DoesWithKills, Edited
 use Rattle.line_editor.proofs.AskedLemmas.{fails_more}
 use Rattle.line_editor.proofs.KillLemmas.{KilledAs, kill_as, killed_as}
 use Rattle.line_editor.proofs.DoneLemmas.{does_after}
-use Rattle.line_editor.proofs.FaultLemmas.{fault_halfway, leaves_kills, not_io, of_wider, ring_behind, same_draft, whole_text}
+use Rattle.line_editor.proofs.FaultLemmas.{fault_halfway, leaves_kills, of_wider, ring_behind}
+use Rattle.line_input.proofs.DraftLemmas.{not_io, same_draft, whole_text}
 
 -- a yank keeps the size of the kill ring
 yanked_size : (kills : Ring) → (after_yank kills).size ≡ kills.size

@@ -23,14 +23,16 @@ use Rattle.line_state.specs.Edited.{bracket_range, pops_text}
 use Rattle.line_editor.specs.Drawings.{bracket_drawn, is_plain_kill, kill_drawn, once_for, pop_drawn, replacement_drawn, replacement_times, yank_drawn}
 use Rattle.line_editor.specs.Editor.{Editor, edited_of, with_draft}
 use Rattle.line_editor.specs.DraftEdits.{after_edit, bracket_replaced, kill_popped, kill_yanked, killed_by, movement_replaced, popped_in, text_inserted, yanked_in}
-use Rattle.line_editor.specs.Input.{Input}
+use Rattle.line_input.specs.Input.{Input}
 use Rattle.line_editor.specs.Outcomes.{DoesInTwoWithKills, DoesWithKills, EditsThenDraws, LeavesOneMoment, editor_of}
 use Rattle.line_editor.proofs.AskedLemmas.{fails_more}
-use Rattle.line_editor.proofs.CountLemmas.{rises_stays, rises_within}
-use Rattle.line_editor.proofs.FaultLemmas.{fault_from, io_behind, leaves_kills, ring_behind, same_draft}
-use Rattle.line_editor.proofs.DrawnLemmas.{frame_then, keeps_then, prompt_drawn, prompt_same, prompt_then}
+use Rattle.line_input.proofs.CountLemmas.{rises_stays, rises_within}
+use Rattle.line_editor.proofs.FaultLemmas.{fault_from, io_behind, leaves_kills, ring_behind}
+use Rattle.line_input.proofs.DraftLemmas.{same_draft}
+use Rattle.line_input.proofs.DrawnTwiceLemmas.{frame_then, colorless, line_kept, line_then}
+use Rattle.line_editor.proofs.DrawnLemmas.{keeps_then, prompt_drawn, prompt_same, prompt_then}
 use Rattle.line_buffer.specs.declared.layout.Layout.{Layout}
-use Rattle.line_editor.proofs.CommandLemmas.{colorless, fails_then, line_kept, line_then}
+use Rattle.line_editor.proofs.CommandLemmas.{fails_then}
 
 -- what is drawn of a kill: of a range that was found, a part where it is a plain kill
 abbrev pub killed_as : Bool → Bool → Position → Drawing

@@ -17,7 +17,7 @@ use Rattle.line_parts.specs.Environment.{Environment}
 use Rattle.line_editor.specs.BracketLaws.{GoingToTheMatchTwice, KilledToTheMatchComesBack}
 use Rattle.line_editor.specs.DraftEdits.{range_emptied, yanked_in}
 use Rattle.line_editor.specs.Editor.{edited_of}
-use Rattle.line_editor.specs.Input.{Input, is_vi_command}
+use Rattle.line_input.specs.Input.{Input, is_vi_command}
 use Rattle.line_keys.specs.declared.cmd.Anchor.TheVariants.{Before}
 use Rattle.line_state.proofs.PlainTextLemmas.{taken_between}
 use Rattle.line_state.specs.Edited.{Edited, stepped_back, with_yanked}

@@ -25,8 +25,9 @@ use Rattle.line_state.specs.Edited.{Edited, with_place}
 use Rattle.line_state.specs.Moves.{to_first_print}
 use Rattle.line_editor.specs.Editor.{edited_of, with_edited}
 use Rattle.line_editor.proofs.DoneLemmas.{cursor_after, does_after}
-use Rattle.line_editor.proofs.FaultLemmas.{of_made, same_draft, whole_text}
-use Rattle.line_editor.proofs.DrawnLemmas.{frame_then, keeps_move, keeps_then, prompt_same, right_after, way_after}
+use Rattle.line_input.proofs.DraftLemmas.{of_made, same_draft, whole_text}
+use Rattle.line_input.proofs.DrawnTwiceLemmas.{frame_then}
+use Rattle.line_editor.proofs.DrawnLemmas.{keeps_move, keeps_then, prompt_same, right_after, way_after}
 use Rattle.line_editor.proofs.EditLemmas.{moved_text}
 
 -- what all changes taken back give is a matter of the text, and not of the cursor

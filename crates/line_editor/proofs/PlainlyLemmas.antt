@@ -33,7 +33,8 @@ use Rattle.line_editor.specs.Editor.{edited_of, with_edited}
 use Rattle.line_editor.specs.Outcomes.{DoesWithKills, EditedOnIo, editor_of}
 use Rattle.line_editor.proofs.FaultLemmas.{but_hinted, fault_shown, leaves_kills, made_stays, ring_behind}
 use Rattle.line_editor.proofs.DoneLemmas.{Redrawn, fails_after, line_after, line_reported}
-use Rattle.line_editor.proofs.DrawnLemmas.{frame_then, hint_trails, prompt_after, right_shown, shown_right}
+use Rattle.line_input.proofs.DrawnTwiceLemmas.{frame_then}
+use Rattle.line_editor.proofs.DrawnLemmas.{hint_trails, prompt_after, right_shown, shown_right}
 
 -- a change of the line's end, of which a part may have been drawn: what it leaves
 module _ {X : Type 0} (e : Ghosts X) (old mid new : X) (undrawn : Undrawn e old mid) (made : Draft) (draft : e.draft mid ≡ made)

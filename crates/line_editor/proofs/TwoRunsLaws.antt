@@ -8,9 +8,10 @@ use Rattle.line_keys.specs.Model.Draft.{Draft, hinted}
 use Rattle.line_keys.specs.Item.{Item}
 use Rattle.line_keys.specs.declared.editor_state.EditorState as editors
 use Rattle.line_keys.specs.declared.raw_reader.RawReader as readers
-use Rattle.line_editor.specs.Editor.{Editor, Ruler, own_ruler}
-use Rattle.line_editor.specs.Input.{Input}
-use Rattle.line_editor.specs.Keymap.{Keymap, keymap_of}
+use Rattle.line_editor.specs.Editor.{Editor}
+use Rattle.line_input.specs.Ruler.{Ruler, own_ruler}
+use Rattle.line_input.specs.Input.{Input}
+use Rattle.line_input.specs.Keymap.{Keymap, keymap_of}
 use Rattle.line_editor.specs.Laws.{TwoRenderers}
 use Rattle.line_editor.specs.Run.{Run}
 use Rattle.line_editor.specs.Outcomes.{editor_of}

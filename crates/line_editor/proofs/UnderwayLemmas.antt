@@ -13,20 +13,22 @@ use Rattle.line_keys.specs.Model.Drawing.{Refreshes, with_hint}
 use Rattle.line_keys.specs.Model.ShownLine.{Redraws}
 use Rattle.line_keys.specs.declared.editor_state.EditorState as editors
 use Rattle.line_keys.specs.declared.raw_reader.RawReader as readers
-use Rattle.line_editor.specs.Binding.{Bound, all_sure}
-use Rattle.line_editor.specs.Input.{Input}
-use Rattle.line_editor.specs.Keymap.{Keymap, keymap_of}
-use Rattle.line_editor.specs.Reading.{KeepsReading}
-use Rattle.line_editor.specs.ItemShown.{ItemShown, any_drawn, asked_behind, ruler_behind}
+use Rattle.line_input.specs.Binding.{Bound, all_sure}
+use Rattle.line_input.specs.Input.{Input}
+use Rattle.line_input.specs.Keymap.{Keymap, keymap_of}
+use Rattle.line_input.specs.Reading.{KeepsReading}
+use Rattle.line_input.specs.ItemShown.{ItemShown, any_drawn, asked_behind, ruler_behind}
 use Rattle.line_editor.specs.Run.{CutShort, End, Run, Turns, stopped, dry}
 use Rattle.line_editor.specs.Run as runs
 use Rattle.line_editor.specs.Outcomes.{Advances, HasProceeded, NeedsMoreItems, Runs, RunsTo, Session, Stays, TakesTurn, and_turn, editor_of, items_read, no_turn, session}
-use Rattle.line_editor.specs.Editor.{Answer, Editor, Ruler, proceeds, submitted, ended, interrupted, own_ruler, ruler_of}
+use Rattle.line_editor.specs.Editor.{Answer, Editor, proceeds, submitted, ended, interrupted}
+use Rattle.line_input.specs.Ruler.{Ruler, own_ruler, ruler_of}
 use Rattle.line_editor.specs.declared.run.Turned.{Turned}
 use Rattle.line_editor.specs.declared.run.Turned.TheVariants as turned
 use Rattle.line_editor.proofs.AskedLemmas.{sure_all}
-use Rattle.line_editor.proofs.DrawnLemmas.{frame_then, hint_trails, line_stays}
-use Rattle.line_editor.proofs.GroupLemmas.{start_there}
+use Rattle.line_input.proofs.DrawnTwiceLemmas.{frame_then}
+use Rattle.line_editor.proofs.DrawnLemmas.{hint_trails, line_stays}
+use Rattle.line_input.proofs.GroupLemmas.{start_there}
 use Rattle.line_editor.proofs.RunLemmas.{run-goes, run-ends, run-dry, turns-on}
 
 -- a phrase that was cut short leaves what all changes taken back give

@@ -7,8 +7,9 @@ use Rattle.line_keys.specs.Command.{kill_to_bracket, move_to_bracket, yank}
 use Rattle.line_keys.specs.declared.cmd.Anchor.TheVariants.{Before}
 use Rattle.line_parts.specs.BracketMatch.{matching_bracket}
 use Rattle.line_parts.specs.Environment.{Environment}
-use Rattle.line_editor.specs.Editor.{Editor, Ruler}
-use Rattle.line_editor.specs.Input.{Input}
+use Rattle.line_editor.specs.Editor.{Editor}
+use Rattle.line_input.specs.Ruler.{Ruler}
+use Rattle.line_input.specs.Input.{Input}
 use Rattle.line_editor.specs.Laws.{after_commands}
 
 -- where the bracket at the cursor and its match begin their clusters, moving to the match and again to its match leads back

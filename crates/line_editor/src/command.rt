@@ -2,19 +2,18 @@
 ghost use Rattle.std.specs.Prelude.{◌≡◌, ◌||◌, ℕ};
 ghost use Rattle.line_buffer.specs.KillRing.{Ring};
 ghost use Rattle.line_editor.specs.Accept.{reply_to};
-ghost use Rattle.line_editor.specs.Input.{Input};
-ghost use Rattle.line_editor.specs.InputState.{input_of};
 ghost use Rattle.line_editor.specs.Outcomes.{DoesCommand, DoesCommandBy, Executes};
+ghost use Rattle.line_input.specs.Input.{Input};
+ghost use Rattle.line_input.specs.InputState.{input_of};
 ghost use Rattle.line_keys.specs.Command as commands;
 ghost use Rattle.line_keys.specs.Command.{command_of};
 ghost use Rattle.line_keys.specs.Model.Drawing.{Does};
 ghost use Rattle.line_parts.specs.Verdict.{verdict_of};
 
-use crate::binding::ConditionalEventHandler;
 use crate::edit::State;
-use crate::input_state::InputState;
 use line_buffer::{KillRing, WordAction};
 use line_config::{Config, Prompt, ReadlineError, Result};
+use line_input::{ConditionalEventHandler, InputState};
 use line_keys::cmd::{Anchor, Cmd};
 use line_keys::editor_state::EditorState;
 use line_keys::refresher::Refresher;

@@ -1,28 +1,16 @@
 //! Laws of the definitions that the contracts cite. No call of the editor is made here.
 ghost use Rattle.line_editor.specs.BracketLaws.{GoingToTheMatchTwice, KilledToTheMatchComesBack};
-ghost use Rattle.line_editor.specs.Laws.{ComingBack, ComparesEvents, DrawingStays, EachKeyBegins, EnoughUndo, ExecutesNoMoreThanKeys, HasOneEnd, InsertionIsOneStep, IsPrefixFree, ReadFromTheCut, ReadingAgain, TurnsAndRun, TwoRenderers, TurnsBeforeMore, TurnsFollow, TurnsReadKeys};
+ghost use Rattle.line_editor.specs.Laws.{ComingBack, EnoughUndo, ExecutesNoMoreThanKeys, HasOneEnd, InsertionIsOneStep, ReadFromTheCut, ReadingAgain, TurnsAndRun, TurnsBeforeMore, TurnsFollow, TurnsReadKeys, TwoRenderers};
 
 use crate::edit::State;
 use line_config::Prompt;
+pub use line_input::laws::{
+    each_key_begins_a_phrase, events_are_compared_by_value, phrases_are_prefix_free,
+    what_a_cut_drew_is_drawn_again,
+};
 use line_keys::editor_state::EditorState;
 use line_parts::{Helper, History};
 use line_state::Renderer;
-
-/// Input events that the map takes for the same are equal, and equal ones are the same.
-pub fn events_are_compared_by_value()
-    ensures { ComparesEvents }
-{}
-
-/// No phrase is a proper beginning of another, and one list of items has one command.
-pub fn phrases_are_prefix_free()
-    ensures { IsPrefixFree }
-{}
-
-/// Each key begins a phrase, in each mode and whatever is bound, and so do the keys of a count with
-/// the key that ends it: with some items after them, or with none, they lead to a command.
-pub fn each_key_begins_a_phrase()
-    ensures { EachKeyBegins }
-{}
 
 /// From one editor, one input and one list of items there is at most one run: it ends in one way,
 /// and leaves one line, history index, kill ring and input value, and the same items unread.
@@ -76,13 +64,6 @@ pub fn reading_again_gives_the_turn()
 /// and the bindings asked before that look at no hint.
 pub fn a_turn_read_again_is_the_whole_phrases()
     ensures { ReadFromTheCut }
-{}
-
-/// Where something is drawn of items that are no phrase yet, as of the keys of a count, something
-/// is drawn of each phrase that is read of them and of items after them, from the draft which they
-/// left, if the binding of the first key looks at no hint.
-pub fn what_a_cut_drew_is_drawn_again()
-    ensures { DrawingStays }
 {}
 
 /// An undo of at least as many steps as there are changes leaves the text that taking back all of

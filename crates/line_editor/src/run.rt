@@ -1,18 +1,17 @@
 //! Reads commands and executes them, until the line is submitted or the input ends.
 ghost use Rattle.std.specs.Prelude.{◌≡◌, false, IfErr};
 ghost use Rattle.line_config.specs.Error.{FaultsOnly, is_fault};
-ghost use Rattle.line_editor.specs.InputState.{input_of, keys_of};
-ghost use Rattle.line_editor.specs.Reading.{BeforeKey};
 ghost use Rattle.line_editor.specs.Outcomes.{Advances, DoesTurn, ReadsTurn, Runs, TellsLeft, command_read, ended_so, kills_read, session};
+ghost use Rattle.line_input.specs.InputState.{input_of, keys_of};
+ghost use Rattle.line_input.specs.Reading.{BeforeKey};
 ghost use Rattle.line_keys.specs.Command.{command_of};
 
-use crate::binding::ConditionalEventHandler;
 use crate::command::{Status, execute};
 use crate::edit::State;
-use crate::input_state::InputState;
 use crate::left::Left;
 use line_buffer::KillRing;
 use line_config::{Config, Prompt, ReadlineError, Result};
+use line_input::{ConditionalEventHandler, InputState};
 use line_keys::cmd::Cmd;
 use line_keys::editor_state::EditorState;
 use line_keys::keys::KeyEvent;

@@ -2,17 +2,16 @@
 ghost use Rattle.line_keys.specs.Command as commands;
 ghost use Rattle.std.specs.Prelude.{◌≡◌, ◌==◌, ◌&&◌, not, length};
 ghost use Rattle.line_editor.specs.DraftEdits.{popped_in, text_inserted, yanked_in};
-ghost use Rattle.line_editor.specs.InputState.{input_of};
 ghost use Rattle.line_editor.specs.Outcomes.{DoesCommand, EditsThenDraws};
+ghost use Rattle.line_input.specs.InputState.{input_of};
 ghost use Rattle.line_keys.specs.Model.Drawing.{Does, drawn_if, edit_drawn};
 ghost use Rattle.line_keys.specs.Model.Plainly.{is_bare_line, takes_char};
 ghost use Rattle.line_state.specs.Edited.{pops_text};
 
-use crate::binding::ConditionalEventHandler;
 use crate::edit::State;
-use crate::input_state::InputState;
 use line_buffer::{RepeatCount, is_printable};
 use line_config::{Prompt, Result};
+use line_input::{ConditionalEventHandler, InputState};
 use line_keys::cmd::Anchor;
 use line_keys::editor_state::EditorState;
 use line_keys::refresher::Refresher;

@@ -1,18 +1,17 @@
 //! How the next command is read.
 ghost use Rattle.std.specs.Prelude.{◌≡◌, OnOk};
 ghost use Rattle.line_config.specs.Error.{MemoryOnly};
-ghost use Rattle.line_editor.specs.Editor.{grouped};
-ghost use Rattle.line_editor.specs.InputState.{keys_of};
-ghost use Rattle.line_editor.specs.Reading.{BeforeKey, ReadsCommand};
+ghost use Rattle.line_input.specs.InputState.{keys_of};
+ghost use Rattle.line_input.specs.Reading.{BeforeKey, ReadsCommand};
+ghost use Rattle.line_input.specs.Ruler.{grouped};
 ghost use Rattle.line_keys.specs.Command.{command_of};
 ghost use Rattle.line_keys.specs.Model.Draft.{KeepsLine, start_text};
 ghost use Rattle.line_keys.specs.Model.Drawing.{Undrawn};
 ghost use Rattle.line_keys.specs.Model.ShownLine.{KeepsDrawn};
 
-use crate::binding::ConditionalEventHandler;
 use crate::edit::State;
-use crate::input_state::InputState;
 use line_config::{Prompt, Result};
+use line_input::{ConditionalEventHandler, InputState};
 use line_keys::cmd::Cmd;
 use line_keys::editor_state::EditorState;
 use line_keys::keys::KeyEvent;
@@ -69,7 +68,7 @@ impl<'out, 'prompt, W: Renderer, H: Helper, P: Prompt, S: History> State<
             self.old (k input_state.old) reader self.new (k input_state.new) rdr.new) }
     {
         let read = input_state.read_phrase(rdr, self, first)?;
-        self.begin_group(&read.command)?;
+        self.begin_group(read.command())?;
         input_state.remember(read)
     }
 

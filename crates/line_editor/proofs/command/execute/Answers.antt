@@ -2,7 +2,7 @@ use Rattle.std.proofs.lemmas.Result.{err_from_is_err_and}
 use Rattle.std.proofs.Common.{option_map, refl}
 use Rattle.std.specs.String.{string_bytes}
 use Rattle.line_keys.specs.Command.{command_of}
-use Rattle.line_editor.specs.InputState.{input_of}
+use Rattle.line_input.specs.InputState.{input_of}
 use Rattle.line_editor.proofs.CommandLemmas.{edits_else, edits_ok, edits_wrong, goes_wrong_by, proceeds_ok}
 use Rattle.line_editor.proofs.KillLemmas.{bracket_replaced_as, replaced_as}
 use Rattle.line_editor.proofs.command.execute.Goals as goal

@@ -4,7 +4,7 @@ use Rattle.line_parts.specs.Helped.{completion_by, hint_by, lights_by, sure_by, 
 use Rattle.line_parts.specs.Hint.{suggestion_of}
 use Rattle.line_keys.specs.declared.editor_state.EditorState.{Ghosts}
 use Rattle.line_editor.specs.declared.edit.State.{State}
-use Rattle.line_editor.specs.InputState.{keys_of}
+use Rattle.line_input.specs.InputState.{keys_of}
 use Rattle.line_editor.specs.Outcomes.{session}
 use Rattle.line_editor.proofs.UnderwayLemmas.{Underway}
 use Rattle.line_editor.proofs.run.run.Given as goal

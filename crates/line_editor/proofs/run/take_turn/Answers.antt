@@ -2,12 +2,13 @@ use Rattle.std.proofs.Common.{refl, rules}
 use Rattle.std.proofs.lemmas.Result.{err_from_is_err_and}
 use Rattle.line_keys.specs.Command.{self_insert}
 use Rattle.line_keys.specs.declared.cmd.Cmd.TheVariants.{SelfInsert}
-use Rattle.line_editor.specs.Editor.{grouped, proceeds}
-use Rattle.line_editor.specs.InputState.{keys_of}
+use Rattle.line_input.specs.Ruler.{grouped}
+use Rattle.line_editor.specs.Editor.{proceeds}
+use Rattle.line_input.specs.InputState.{keys_of}
 use Rattle.line_editor.specs.declared.run.Turned.TheVariants as turned
 use Rattle.line_editor.proofs.CommandLemmas.{edits_ok, edits_wrong}
 use Rattle.line_editor.proofs.TurnLemmas.{advanced, goes_wrong, needs_more, stops_reading, tells}
-use Rattle.line_editor.proofs.TypedLemmas.{none_read, reading_faults, typed_read}
+use Rattle.line_input.proofs.TypedLemmas.{none_read, reading_faults, typed_read}
 use Rattle.line_editor.proofs.run.take_turn.Goals as goal
 
 pub returns-in-Err-Eof-clause-advances : goal.returns-in-Err-Eof-clause-advances

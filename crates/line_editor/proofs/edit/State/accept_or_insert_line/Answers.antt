@@ -3,7 +3,7 @@ use Rattle.std.proofs.Common.{◌∙◌, refl}
 use Rattle.line_keys.specs.Command.{accept_or_insert_line}
 use Rattle.line_editor.proofs.AcceptLemmas.{drop_fails, frame_both, inserting_fails, line_stays_so, newline_comes, newline_fails, none_failed, submits_line}
 use Rattle.line_editor.proofs.CommandLemmas.{executed_ok}
-use Rattle.line_editor.proofs.DrawnLemmas.{frame_then}
+use Rattle.line_input.proofs.DrawnTwiceLemmas.{frame_then}
 use Rattle.line_editor.specs.declared.command.Status.TheVariants.{Proceed, Submit}
 use Rattle.line_editor.proofs.edit.State.accept_or_insert_line.Goals as goal
 

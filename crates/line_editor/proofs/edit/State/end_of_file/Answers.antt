@@ -3,7 +3,7 @@ use Rattle.std.proofs.Common.{rules, ◌≡◌, ◌∙◌, ◌==◌, length, ref
 use Rattle.line_config.specs.declared.config.EditMode.TheVariants.{Emacs}
 use Rattle.line_keys.specs.Command.{end_of_file}
 use Rattle.line_keys.specs.Model.Draft.{Draft}
-use Rattle.line_editor.specs.InputState.{input_of}
+use Rattle.line_input.specs.InputState.{input_of}
 use Rattle.line_editor.specs.declared.command.Status.TheVariants.{Proceed, Submit}
 use Rattle.line_editor.proofs.AcceptLemmas.{drop_fails, emacs_keeps, empty_ends, end_answers, end_ends, others_submit}
 use Rattle.line_editor.proofs.edit.State.end_of_file.Goals as goal

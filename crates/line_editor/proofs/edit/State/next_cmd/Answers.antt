@@ -1,7 +1,7 @@
 use Rattle.std.proofs.lemmas.Result.{err_from_is_err_and}
-use Rattle.line_editor.specs.Editor.{grouped}
-use Rattle.line_editor.specs.InputState.{keys_of}
-use Rattle.line_editor.proofs.TypedLemmas.{none_read}
+use Rattle.line_input.specs.Ruler.{grouped}
+use Rattle.line_input.specs.InputState.{keys_of}
+use Rattle.line_input.proofs.TypedLemmas.{none_read}
 use Rattle.line_editor.proofs.edit.State.next_cmd.Goals as goal
 
 pub returns : goal.returns

@@ -1,7 +1,7 @@
 use Rattle.std.proofs.Common.{rules}
 use Rattle.std.proofs.lemmas.Result.{err_from_is_err_and}
 use Rattle.line_buffer.specs.KillRing.{yanked_text}
-use Rattle.line_editor.specs.InputState.{input_of}
+use Rattle.line_input.specs.InputState.{input_of}
 use Rattle.line_editor.proofs.KillLemmas.{yanked_by}
 use Rattle.line_editor.proofs.edit.State.yank_killed.Goals as goal
 

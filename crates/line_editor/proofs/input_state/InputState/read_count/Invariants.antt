@@ -1,9 +1,0 @@
-use Rattle.std.proofs.Common.{length}
-use Rattle.line_editor.proofs.CountedLemmas.{Counting}
-use Rattle.line_editor.proofs.input_state.InputState.read_count.Given as goal
-
-abbrev pub invariant-keys : goal.invariant-keys
-invariant-keys g l = Counting g.W.EditorState g.R.RawReader l.fn.wrt l.fn.rdr l.fn.mode l.fn.first l.typed l.wrt l.rdr
-
-abbrev pub decreases-keys : goal.decreases-keys
-decreases-keys g l = length (g.R.RawReader.rest l.rdr)

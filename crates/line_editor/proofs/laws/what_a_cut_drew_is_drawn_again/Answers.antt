@@ -1,5 +1,0 @@
-use Rattle.line_editor.proofs.DrawnAgainLaws.{drawn-again}
-use Rattle.line_editor.proofs.laws.what_a_cut_drew_is_drawn_again.Goals as goal
-
-pub returns : goal.returns
-returns c = drawn-again
