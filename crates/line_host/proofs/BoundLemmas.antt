@@ -5,11 +5,11 @@ use Rattle.line_keys.specs.Command.{Command}
 use Rattle.line_keys.specs.declared.keys.KeyEvent.{KeyEvent}
 use Rattle.line_editor.specs.Binding.{Rebinds, answers, bound_of, bound_to, handled}
 use Rattle.line_editor.specs.Event.{Chord, each_key, keys, mouse}
-use Rattle.line_editor.specs.declared.binding.ConditionalEventHandler as handlers
-use Rattle.line_editor.specs.declared.binding.EventHandler.{EventHandler}
-use Rattle.line_editor.specs.declared.binding.EventHandler.TheVariants.{Conditional, Simple}
-use Rattle.line_editor.specs.declared.binding.NoHandler.{NoHandler}
-use Rattle.line_editor.specs.declared.bindings.Bindings.{Bindings}
+use Rattle.line_input.specs.declared.binding.ConditionalEventHandler as handlers
+use Rattle.line_input.specs.declared.binding.EventHandler.{EventHandler}
+use Rattle.line_input.specs.declared.binding.EventHandler.TheVariants.{Conditional, Simple}
+use Rattle.line_input.specs.declared.binding.NoHandler.{NoHandler}
+use Rattle.line_input.specs.declared.bindings.Bindings.{Bindings}
 use Rattle.line_host.specs.Bound.{BoundCommands, bound, command_at, command_in, bound_commands}
 
 -- commands that are bound as nothing are none

@@ -3,10 +3,10 @@ use Rattle.std.specs.Prelude.{List, [], ◌∷◌, ◌++◌, Option, None, Some,
 use Rattle.line_keys.specs.Command.{Command, command_of}
 use Rattle.line_editor.specs.Binding.{Bound, answers}
 use Rattle.line_editor.specs.Event.{Chord, each_key, keys, mouse}
-use Rattle.line_editor.specs.declared.binding.EventHandler.{EventHandler}
-use Rattle.line_editor.specs.declared.binding.EventHandler.TheVariants.{Conditional, Simple}
-use Rattle.line_editor.specs.declared.binding.NoHandler.{NoHandler}
-use Rattle.line_editor.specs.declared.bindings.Bindings.{Bindings}
+use Rattle.line_input.specs.declared.binding.EventHandler.{EventHandler}
+use Rattle.line_input.specs.declared.binding.EventHandler.TheVariants.{Conditional, Simple}
+use Rattle.line_input.specs.declared.binding.NoHandler.{NoHandler}
+use Rattle.line_input.specs.declared.bindings.Bindings.{Bindings}
 
 -- events with their commands, of which the first one of an event counts; for one without a command the reader and the tables are asked
 abbrev pub BoundCommands : Type 0

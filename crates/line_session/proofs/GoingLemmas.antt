@@ -23,7 +23,7 @@ use Rattle.line_editor.specs.Run.{CutShort, ready}
 use Rattle.line_editor.specs.Step.{step}
 use Rattle.line_editor.specs.declared.run.Turned.{Turned}
 use Rattle.line_editor.specs.declared.run.Turned.TheVariants as turned
-use Rattle.line_editor.proofs.DrawnLemmas.{frame_then}
+use Rattle.line_input.proofs.DrawnTwiceLemmas.{frame_then}
 use Rattle.line_session.specs.Steps.{DoesItem, StepsEnd, ItemTaken, NoneComesIn, Rules, Steps, TurnFrom, as_it_is, character_of, comes_in, reads_no_command, typing}
 use Rattle.line_session.specs.Steps as steps
 use Rattle.line_session.specs.Taken.{TurnsComeTo, DrawnBehind, DrawnOnce, IsLineShown, IsShownIn, IsShownWith, KeepsRules, PutsIn, TakesItem, TakesOne, WaitsBehind, is_settled, rules_by, session_rules, standing_of}

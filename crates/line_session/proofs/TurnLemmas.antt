@@ -32,9 +32,9 @@ use Rattle.line_editor.specs.declared.left.Left.{Left}
 use Rattle.line_editor.specs.declared.run.Turned.{Turned}
 use Rattle.line_editor.specs.declared.run.Turned.TheVariants as turned
 use Rattle.line_editor.proofs.DrawnLemmas.{hint_trails, line_stays}
-use Rattle.line_editor.proofs.ShownLemmas.{none-last}
+use Rattle.line_input.proofs.ShownLemmas.{none-last}
 use Rattle.line_editor.proofs.TurnLemmas.{needs_more}
-use Rattle.line_editor.proofs.PhraseReadLemmas.{has_item}
+use Rattle.line_input.proofs.PhraseReadLemmas.{has_item}
 use Rattle.line_session.specs.Searching.{Search, search_cmd, search_value}
 use Rattle.line_session.specs.Steps.{AnswersCommand, AnswersTurn, DoesInMode, DoesInSearch, ExecutesAndAnswers, Rules, TurnFrom, once_drawn, reads_no_command}
 use Rattle.line_session.specs.Steps as steps

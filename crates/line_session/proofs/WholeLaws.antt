@@ -13,8 +13,8 @@ use Rattle.line_editor.specs.Phrase.{IsBeginning, Phrase, behind_key, count_in_f
 use Rattle.line_editor.specs.Read.{Read}
 use Rattle.line_editor.specs.Reading.{LeftByCut}
 use Rattle.line_editor.specs.Run.{CutShort}
-use Rattle.line_editor.proofs.AgainLaws.{phrase-first}
-use Rattle.line_editor.proofs.DrawnAgainLaws.{drawn-again}
+use Rattle.line_input.proofs.AgainLaws.{phrase-first}
+use Rattle.line_input.proofs.DrawnAgainLaws.{drawn-again}
 use Rattle.line_parts.specs.Environment.{Environment}
 use Rattle.line_session.specs.Pieces.{EndsTheSame, GoesOnFrom, Waited, with_more}
 use Rattle.line_session.specs.Pieces as pieces

@@ -1,5 +1,5 @@
 use Rattle.std.proofs.Common.{◌∙◌, inr, refl, sym}
-use Rattle.line_editor.proofs.DrawnLemmas.{frame_then}
+use Rattle.line_input.proofs.DrawnTwiceLemmas.{frame_then}
 use Rattle.line_session.specs.Searching.{search_value}
 use Rattle.line_session.proofs.TurnLemmas.{drawn_all, leaves_all, proceeds_out}
 use Rattle.line_session.proofs.turns.do_in_search.Goals as goal

@@ -1,5 +1,5 @@
 use Rattle.line_buffer.specs.declared.movement.CharSearch.TheVariants.{Forward}
-use Rattle.line_editor.proofs.SequenceLemmas.{one_in_vain, two_answered, two_in_vain}
+use Rattle.line_input.proofs.SequenceLemmas.{one_in_vain, two_answered, two_in_vain}
 use Rattle.line_editor.specs.ItemShown.{kept}
 use Rattle.line_editor.specs.Phrase.{of_mode}
 use Rattle.line_editor.specs.Tail.{alone, by_character, by_paste, by_second_in_vain, by_second_key, by_sequence, in_vain}
