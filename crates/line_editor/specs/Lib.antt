@@ -1,5 +1,6 @@
 pub mod Accept
 pub mod Completing
+pub mod Deferred
 pub mod Editor
 pub mod BracketLaws
 pub mod DraftEdits
@@ -10,7 +11,6 @@ pub mod DrawnVerdict
 pub mod Run
 pub mod Drawings
 pub mod Resized
-pub mod Left
 pub mod Outcomes
 pub mod Status
 pub mod Step

@@ -9,7 +9,7 @@ ghost use Rattle.line_buffer.specs.Line.{Line, inserted_at_cursor, is_at_end};
 ghost use Rattle.line_buffer.specs.Printable.{is_plain, is_printable};
 ghost use Rattle.line_keys.specs.Model.Display.{IsRight, ShowsText, columns_back, columns_on, lit_after, never_drawn};
 ghost use Rattle.line_keys.specs.Model.Draft.{empty_draft, hinted, KeepsText};
-ghost use Rattle.line_keys.specs.Model.Drawing.{Paints, ShowsEdit, ShowsEnd, Undrawn};
+ghost use Rattle.line_keys.specs.Model.Drawing.{Paints, ShowsEdit, ShowsEnd};
 ghost use Rattle.line_keys.specs.Model.Frame.{FailsOnlyIf, Frame};
 ghost use Rattle.line_keys.specs.Model.Plainly.{has_highlighting, leaves_bare};
 ghost use Rattle.line_keys.specs.Model.ShownLine.{HasRightLayout, Shows};
@@ -276,28 +276,6 @@ impl<'out, 'prompt, W: Renderer, H: Helper, P: Prompt, S: History> State<
         ensures { result ≡ (⟦<Self as EditorState>⟧.display self.now).layout.default_prompt }
     {
         self.view.layout().default_prompt
-    }
-
-    /// Asks the helper for the hint of the line; a hint that displays nothing counts as none.
-    /// Nothing is drawn.
-    ///
-    /// # Errors
-    /// `Io` if the helper fails, or the history that it asks, and `Memory` if memory runs out. The
-    /// hint then stays, and so does all else.
-    pub fn hint(&mut self) -> Result<()>
-        ensures draft { let e = ⟦<Self as EditorState>⟧ in OnOk result
-            (e.draft self.new ≡ hinted (e.environment self.old) (e.draft self.old)) }
-        ensures err { let d = ⟦<Self as EditorState>⟧.draft in
-            OnErr result (d self.new ≡ d self.old) }
-        ensures text { let d = ⟦<Self as EditorState>⟧.draft in
-            KeepsText (d self.old) (d self.new) }
-        ensures undrawn { Undrawn ⟦<Self as EditorState>⟧ self.old self.new }
-        ensures fails { let e = ⟦<Self as EditorState>⟧ in FailsOnlyIf result
-            (is_sure (e.sure self.old) for_hint ≡ true → ⊥)
-            (e.failures self.old) (e.failures self.new) }
-    {
-        self.line.hint = self.context.hint(self.alloc, self.line.edited.line())?;
-        Ok(())
     }
 
     // Asks whether characters of the line are highlighted, where colors are on.

@@ -3,15 +3,15 @@
 #![tactic(auto)]
 
 pub mod command;
+pub mod deferred;
 pub mod edit;
 pub mod laws;
-pub mod left;
 pub mod run;
 
 pub use command::{Status, execute};
+pub use deferred::Deferred;
 pub use edit::State;
 pub use edit::open_line::KeptLine;
-pub use left::Left;
 pub use line_buffer as buffer;
 pub use line_config as config;
 pub use line_input::{

@@ -1,14 +1,14 @@
 //! Reads commands and executes them, until the line is submitted or the input ends.
 ghost use Rattle.std.specs.Prelude.{◌≡◌, false, IfErr};
 ghost use Rattle.line_config.specs.Error.{FaultsOnly, is_fault};
-ghost use Rattle.line_editor.specs.Outcomes.{Advances, DoesTurn, ReadsTurn, Runs, TellsLeft, command_read, ended_so, kills_read, session};
+ghost use Rattle.line_editor.specs.Outcomes.{Advances, DoesTurn, ReadsTurn, Runs, TellsDeferred, command_read, ended_so, kills_read, session};
 ghost use Rattle.line_input.specs.InputState.{input_of, keys_of};
 ghost use Rattle.line_input.specs.Reading.{BeforeKey};
 ghost use Rattle.line_keys.specs.Command.{command_of};
 
 use crate::command::{Status, execute};
+use crate::deferred::Deferred;
 use crate::edit::State;
-use crate::left::Left;
 use line_buffer::KillRing;
 use line_config::{Config, Prompt, ReadlineError, Result};
 use line_input::{ConditionalEventHandler, InputState};
@@ -116,13 +116,13 @@ pub fn do_turn<
     input_state: &InputState<'_, C>,
     kill_ring: &mut KillRing,
     config: &Config,
-) -> Result<(Turned, Option<Left>)>
+) -> Result<(Turned, Option<Deferred>)>
     ensures does { DoesTurn ⟦<State<'out, 'prompt, W, H, P, S> as EditorState>⟧ result state.old
         (input_of input_state.now) config.now.indent_size kill_ring.old (command_of command)
         state.new kill_ring.new }
     ensures ring { kill_ring.new.size ≡ kill_ring.old.size }
 {
-    let left = Left::by(&command);
+    let left = Deferred::by(&command);
     match execute(command, state, input_state, kill_ring, config) {
         Ok(Status::Proceed) => Ok((Turned::Proceeds, left)),
         Ok(Status::Submit) => Ok((Turned::Submitted, None)),
@@ -194,14 +194,14 @@ pub fn take_turn<
     rdr: &mut W::Reader,
     kill_ring: &mut KillRing,
     config: &Config,
-) -> Result<(Turned, Option<Left>)>
+) -> Result<(Turned, Option<Deferred>)>
     ensures advances { let k = keys_of C.ConditionalEventHandler in
         Advances ⟦<State<'out, 'prompt, W, H, P, S> as EditorState>⟧ W.Reader.RawReader
         config.now.indent_size (ended_so result)
         (session state.old (k input_state.old) rdr.old kill_ring.old)
         (session state.new (k input_state.new) rdr.new kill_ring.new) }
     ensures left { let k = keys_of C.ConditionalEventHandler in
-        TellsLeft ⟦<State<'out, 'prompt, W, H, P, S> as EditorState>⟧ W.Reader.RawReader result
+        TellsDeferred ⟦<State<'out, 'prompt, W, H, P, S> as EditorState>⟧ W.Reader.RawReader result
         (session state.old (k input_state.old) rdr.old kill_ring.old)
         (session state.new (k input_state.new) rdr.new kill_ring.new) }
     ensures ring { kill_ring.new.size ≡ kill_ring.old.size }
@@ -235,7 +235,7 @@ fn take_turn_from<
     rdr: &mut W::Reader,
     kill_ring: &mut KillRing,
     config: &Config,
-) -> Result<(Turned, Option<Left>)>
+) -> Result<(Turned, Option<Deferred>)>
     ensures advances { let k = keys_of C.ConditionalEventHandler in
         BeforeKey W.Reader.RawReader first rdr.old (λ reader.
         Advances ⟦<State<'out, 'prompt, W, H, P, S> as EditorState>⟧ W.Reader.RawReader
@@ -244,7 +244,7 @@ fn take_turn_from<
         (session state.new (k input_state.new) rdr.new kill_ring.new)) }
     ensures left { let k = keys_of C.ConditionalEventHandler in
         BeforeKey W.Reader.RawReader first rdr.old (λ reader.
-        TellsLeft ⟦<State<'out, 'prompt, W, H, P, S> as EditorState>⟧ W.Reader.RawReader result
+        TellsDeferred ⟦<State<'out, 'prompt, W, H, P, S> as EditorState>⟧ W.Reader.RawReader result
         (session state.old (k input_state.old) reader kill_ring.old)
         (session state.new (k input_state.new) rdr.new kill_ring.new)) }
     ensures ring { kill_ring.new.size ≡ kill_ring.old.size }

@@ -19,9 +19,9 @@ use Rattle.line_editor.specs.Keymap.{Keymap}
 use Rattle.line_editor.specs.Phrase.{Phrase, behind_key, of_mode}
 use Rattle.line_editor.specs.Read.{Read}
 use Rattle.line_editor.specs.Run.{ready}
-use Rattle.line_editor.specs.Left.{left_by}
-use Rattle.line_editor.specs.declared.left.Left.{Left}
-use Rattle.line_editor.specs.declared.left.Left.TheVariants as lefts
+use Rattle.line_editor.specs.Deferred.{deferred_by}
+use Rattle.line_editor.specs.declared.deferred.Deferred.{Deferred}
+use Rattle.line_editor.specs.declared.deferred.Deferred.TheVariants as deferred
 use Rattle.line_editor.proofs.RunLaws.{one-phrase}
 use Rattle.line_session.specs.Completing.{BeginsCompletion, ByCandidates}
 use Rattle.line_session.specs.Pieces.{EndsOnce}
@@ -155,17 +155,17 @@ editor_is : (one other : Editor) → one.draft ≡ other.draft → one.kills ≡
 editor_is one other draft kills = ap (λ d. record { draft = d; kills = one.kills }) draft ∙ ap (λ k. record { draft = other.draft; kills = k }) kills
 
 module _ (by : Rules) (none : (shown : Shown) → by.environment.own_completion shown ≡ None) where
-  answers_once : (left : Option Left) (old new new' : Draft) (next next' : Mode) → AnswersCommand by.settings by.environment left modes.Editing old new next
+  answers_once : (left : Option Deferred) (old new new' : Draft) (next next' : Mode) → AnswersCommand by.settings by.environment left modes.Editing old new next
       → AnswersCommand by.settings by.environment left modes.Editing old new' next' → OnceLeft new new' next next'
   answers_once None old new new' next next' one other = same_left old new new' next next' modes.Editing refl one other
-  answers_once (Some lefts.Abort) old new new' next next' one other = same_left old new new' next next' modes.Editing refl one other
-  answers_once (Some lefts.Complete) old new new' next next' one other =
+  answers_once (Some deferred.Abort) old new new' next next' one other = same_left old new new' next next' modes.Editing refl one other
+  answers_once (Some deferred.Complete) old new new' next next' one other =
       same_left old new new' next next' modes.Editing refl (begins_nothing by.settings by.environment old new next none one) (begins_nothing by.settings by.environment old new' next' none other)
-  answers_once (Some lefts.CompleteBackward) old new new' next next' one other = same_left old new new' next next' modes.Editing refl one other
-  answers_once (Some lefts.ForwardSearchHistory) old new new' next next' one other = begins_once by.environment Forward old new new' next next' one other
-  answers_once (Some lefts.QuotedInsert) old new new' next next' one other = same_left old new new' next next' modes.Quoting refl one other
-  answers_once (Some lefts.ReverseSearchHistory) old new new' next next' one other = begins_once by.environment Reverse old new new' next next' one other
-  answers_once (Some lefts.Suspend) old new new' next next' one other = same_left old new new' next next' modes.Suspended refl one other
+  answers_once (Some deferred.CompleteBackward) old new new' next next' one other = same_left old new new' next next' modes.Editing refl one other
+  answers_once (Some deferred.ForwardSearchHistory) old new new' next next' one other = begins_once by.environment Forward old new new' next next' one other
+  answers_once (Some deferred.QuotedInsert) old new new' next next' one other = same_left old new new' next next' modes.Quoting refl one other
+  answers_once (Some deferred.ReverseSearchHistory) old new new' next next' one other = begins_once by.environment Reverse old new new' next next' one other
+  answers_once (Some deferred.Suspend) old new new' next next' one other = same_left old new new' next next' modes.Suspended refl one other
 
   -- a line that ended was left as it was
   ended_once : (answer answer' : Answer) (old new new' : Editor) (next next' : Mode) → answer ≡ answer' → (new ≡ old) × (next ≡ modes.Editing)
@@ -178,7 +178,7 @@ module _ (by : Rules) (none : (shown : Shown) → by.environment.own_completion 
     over = λ ends. (one.1, other.1);
   }
 
-  turn_once : (answer : Answer) (left : Option Left) (old new new' : Editor) (next next' : Mode) → AnswersTurn by answer left modes.Editing old new next
+  turn_once : (answer : Answer) (left : Option Deferred) (old new new' : Editor) (next next' : Mode) → AnswersTurn by answer left modes.Editing old new next
       → AnswersTurn by answer left modes.Editing old new' next' → Once new new' next next' answer answer
   turn_once proceeds left old new new' next next' one other =
       let both = answers_once left old.draft new.draft new'.draft next next' one.0 other.0 in
@@ -199,10 +199,10 @@ module _ (by : Rules) (none : (shown : Shown) → by.environment.own_completion 
   executes_once command input found new new' next next' answer answer' one other =
       let same : answer' ≡ answer = sym other.leaves.answered ∙ one.leaves.answered in
       let executed : other.executed ≡ one.executed = other.leaves.editor ∙ sym one.leaves.editor in
-      let there : AnswersTurn by answer (left_by command) modes.Editing one.executed new' next' =
-      subst (λ a. AnswersTurn by a (left_by command) modes.Editing one.executed new' next') same
-      (subst (λ x. AnswersTurn by answer' (left_by command) modes.Editing x new' next') executed other.answers) in
-      subst (λ a. Once new new' next next' answer a) (sym same) (turn_once answer (left_by command) one.executed new new' next next' one.answers there)
+      let there : AnswersTurn by answer (deferred_by command) modes.Editing one.executed new' next' =
+      subst (λ a. AnswersTurn by a (deferred_by command) modes.Editing one.executed new' next') same
+      (subst (λ x. AnswersTurn by answer' (deferred_by command) modes.Editing x new' next') executed other.answers) in
+      subst (λ a. Once new new' next next' answer a) (sym same) (turn_once answer (deferred_by command) one.executed new new' next next' one.answers there)
 
   search_once : (search : Search) (says : Option SearchCmd) (command : Command) (input : Input) (found new new' : Editor) (next next' : Mode) (answer answer' : Answer)
       → DoesInSearch by search says command input found new next answer → DoesInSearch by search says command input found new' next' answer'

@@ -4,7 +4,7 @@ use Rattle.line_keys.specs.Command.{Command}
 use Rattle.line_keys.specs.Item.{Item}
 use Rattle.line_editor.specs.Editor.{Answer, Editor, Leaves, ended, interrupted, proceeds, submitted}
 use Rattle.line_editor.specs.Input.{Input}
-use Rattle.line_editor.specs.Left.{left_by}
+use Rattle.line_editor.specs.Deferred.{deferred_by}
 use Rattle.line_editor.specs.Run as runs
 use Rattle.line_editor.specs.Run.{End, Run, Turn, dry, ready, stopped}
 use Rattle.line_editor.specs.Step.{step}
@@ -24,8 +24,8 @@ same_editor : (one other : Editor) → one.draft ≡ other.draft → one.kills �
 same_editor one other draft kills = ap (λ d. record one { draft = d }) draft ∙ ap (λ k. record { draft = other.draft; kills = k }) kills
 
 -- with nothing left to the program nothing is answered
-answered : (by : Rules) (answer : Answer) (command : Command) (executed new : Editor) (next : Mode) → (answer ≡ proceeds → left_by command ≡ None)
-    → AnswersTurn by answer (left_by command) Editing executed new next → (new ≡ executed) × (next ≡ Editing)
+answered : (by : Rules) (answer : Answer) (command : Command) (executed new : Editor) (next : Mode) → (answer ≡ proceeds → deferred_by command ≡ None)
+    → AnswersTurn by answer (deferred_by command) Editing executed new next → (new ≡ executed) × (next ≡ Editing)
 answered by proceeds command executed new next none answers =
     let told = subst (λ left. AnswersTurn by proceeds left Editing executed new next) (none refl) answers in
     (same_editor new executed told.0.0 told.1, told.0.1)
@@ -34,7 +34,7 @@ answered by ended command executed new next none answers = answers
 answered by interrupted command executed new next none answers = answers
 
 turns : (by : Rules) (from to : Standing) (answer : Answer) (turn : TurnFrom by from to answer) → from.mode ≡ Editing
-    → (answer ≡ proceeds → left_by turn.read.command ≡ None) → Turns by from to answer turn
+    → (answer ≡ proceeds → deferred_by turn.read.command ≡ None) → Turns by from to answer turn
 turns by from to answer turn mode none =
     let does : ExecutesAndAnswers by Editing turn.read.command turn.read.input (ready turn.read.command turn.read.draft from.editor.kills) to.editor to.mode answer =
     subst (λ m. DoesInMode by m turn.read.command turn.read.input (ready turn.read.command turn.read.draft from.editor.kills) to.editor to.mode answer) mode turn.does in
@@ -65,7 +65,7 @@ run_on : (by : Rules) (over_calls : Bool) (start found : Standing) (last : Edito
 run_on by over_calls start found last input end mode steps.none none run = run
 run_on by over_calls start found last input end mode (steps.turn {found = before} to turn) none run =
     let made = turns by before found proceeds turn (mode_behind by over_calls start before mode to none.0) (λ _. none.1) in
-    run_on by over_calls start before last input end mode to none.0 (runs.goes_on made.taken run.0, (ap (λ r. left_by r.command) made.same ∙ none.1, run.1))
+    run_on by over_calls start before last input end mode to none.0 (runs.goes_on made.taken run.0, (ap (λ r. deferred_by r.command) made.same ∙ none.1, run.1))
 run_on by over_calls start found last input end mode (steps.item to taken) none run = absurd none
 run_on by over_calls start found last input end mode (steps.resume over to goes_on) none run = absurd none
 
@@ -96,7 +96,7 @@ session_runs by over_calls start last input (dry items) mode session =
 
 -- a turn of a run is a turn from where commands are read
 turn_from : (by : Rules) (editor middle : Editor) (input input' : Input) (items more : List Item) (answer : Answer)
-    (turn : Turn by.keymap by.ruler by.environment editor input items middle input' more answer) → (answer ≡ proceeds → left_by turn.read.command ≡ None)
+    (turn : Turn by.keymap by.ruler by.environment editor input items middle input' more answer) → (answer ≡ proceeds → deferred_by turn.read.command ≡ None)
     → TurnFrom by (reading_commands editor input items) (reading_commands middle input' more) answer
 turn_from by editor middle input input' items more answer turn none = record {
   reads = refl;
@@ -108,7 +108,7 @@ turn_from by editor middle input input' items more answer turn none = record {
   does = record { executed = middle; leaves = turn.leaves; answers = stays answer none };
 }
   where
-    stays : (a : Answer) → (a ≡ proceeds → left_by turn.read.command ≡ None) → AnswersTurn by a (left_by turn.read.command) Editing middle middle Editing
+    stays : (a : Answer) → (a ≡ proceeds → deferred_by turn.read.command ≡ None) → AnswersTurn by a (deferred_by turn.read.command) Editing middle middle Editing
     stays proceeds left = subst (λ l. AnswersTurn by proceeds l Editing middle middle Editing) (sym (left refl)) ((refl, refl), refl)
     stays submitted left = (refl, refl)
     stays ended left = (refl, refl)

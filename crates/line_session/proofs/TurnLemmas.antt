@@ -22,13 +22,13 @@ use Rattle.line_editor.specs.Editor.{Answer, Editor, Leaves, Ruler, ended, group
 use Rattle.line_editor.specs.Input.{Input}
 use Rattle.line_editor.specs.ItemShown.{ItemShown, any_drawn, drawing_shown, kept, last_drawn, ruler_behind, shows_count, shows_line, times_drawn}
 use Rattle.line_editor.specs.Keymap.{KeyState, Keymap, keymap_of}
-use Rattle.line_editor.specs.Left.{left_by}
-use Rattle.line_editor.specs.Outcomes.{Advances, AnswersAs, Executed, NeedsMoreItems, Session, TakesTurn, TellsLeft, editor_of, session}
+use Rattle.line_editor.specs.Deferred.{deferred_by}
+use Rattle.line_editor.specs.Outcomes.{Advances, AnswersAs, Executed, NeedsMoreItems, Session, TakesTurn, TellsDeferred, editor_of, session}
 use Rattle.line_editor.specs.Phrase.{entered}
 use Rattle.line_editor.specs.Reading.{ReadsCommand}
 use Rattle.line_editor.specs.Run.{kills_before, ready}
 use Rattle.line_editor.specs.Step.{step}
-use Rattle.line_editor.specs.declared.left.Left.{Left}
+use Rattle.line_editor.specs.declared.deferred.Deferred.{Deferred}
 use Rattle.line_editor.specs.declared.run.Turned.{Turned}
 use Rattle.line_editor.specs.declared.run.Turned.TheVariants as turned
 use Rattle.line_editor.proofs.DrawnLemmas.{hint_trails, line_stays}
@@ -86,7 +86,7 @@ module _ {X Y : Type 0} (e : editors.Ghosts X) (r : readers.Ghosts Y) (settings 
   module _ (reads : reads_no_command mode ≡ false) (edits : steps.shows_line mode ≡ true) (shown : IsLineShown e now.state) where
     -- a turn that was made, and what was done about what it left
     turn_here : (answer : Answer) (then_ : Mode) (last : Editor) → (turn : TakesTurn e r settings.indent_size now next answer)
-        → AnswersTurn (session_rules e r settings now) answer (left_by turn.turn.read.command) mode (editor_of e next.state next.kills) last then_
+        → AnswersTurn (session_rules e r settings now) answer (deferred_by turn.turn.read.command) mode (editor_of e next.state next.kills) last then_
         → TurnFrom (session_rules e r settings now) (standing_of e r mode now) (record (standing_of e r then_ next) { editor = last }) answer
     turn_here answer then_ last turn answers = record {
       reads = reads;
@@ -112,12 +112,12 @@ module _ {X Y : Type 0} (e : editors.Ghosts X) (r : readers.Ghosts Y) (settings 
         shown_by e next.state (turn.drawn.right shown.right) (turn.drawn.line (line_by e now.state shown))
 
     -- a turn that proceeds, and what was done about what it left
-    pub proceeds_so : (left : Option Left) (then_ : Mode) (state : X) → Advances e r settings.indent_size (Ok turned.Proceeds) now next
-        → TellsLeft e r (Ok (turned.Proceeds, left)) now next → AnswersCommand settings (e.environment next.state) left mode (e.draft next.state) (e.draft state) then_
+    pub proceeds_so : (left : Option Deferred) (then_ : Mode) (state : X) → Advances e r settings.indent_size (Ok turned.Proceeds) now next
+        → TellsDeferred e r (Ok (turned.Proceeds, left)) now next → AnswersCommand settings (e.environment next.state) left mode (e.draft next.state) (e.draft state) then_
         → TakesOne e r settings mode now turned.Proceeds then_ (session state next.keys next.reader next.kills)
     proceeds_so left then_ state advances tells answers =
         let turn : TakesTurn e r settings.indent_size now next proceeds = advances.turned in
-        let D : Option Left → Environment → Type 0 = λ l w. AnswersCommand settings w l mode (e.draft next.state) (e.draft state) then_ in
+        let D : Option Deferred → Environment → Type 0 = λ l w. AnswersCommand settings w l mode (e.draft next.state) (e.draft state) then_ in
         let there = subst (λ l. D l (e.environment now.state)) (tells.told left refl turn.ruler turn.turn) (subst (D left) advances.stays.keeps.both.frame.environment answers) in
         turn_here proceeds then_ (editor_of e state next.kills) turn (there, refl)
 
@@ -176,7 +176,7 @@ module _ {X : Type 0} (e : editors.Ghosts X) (settings : Settings) (keymap : Key
   by = rules_by e keymap settings old
 
   pub leaves_so : (next : Mode) (answer : Answer) → Executed e mid input settings.indent_size kills command new kills' answer
-      → AnswersTurn by answer (left_by command) modes.Editing (editor_of e new kills') (editor_of e last kills') next
+      → AnswersTurn by answer (deferred_by command) modes.Editing (editor_of e new kills') (editor_of e last kills') next
       → DoesInSearch by search says command input (editor_of e old kills) (editor_of e last kills') next answer
   leaves_so next answer done answers =
       let shown = shown_by e mid drew.right (hint_trails e mid drew.shows) in
@@ -193,11 +193,11 @@ module _ {X : Type 0} (e : editors.Ghosts X) (settings : Settings) (keymap : Key
       } in
       subst (λ s. DoesInSearch by search s command input (editor_of e old kills) (editor_of e last kills') next answer) (sym none) there
 
-  pub proceeds_out : (left : Option Left) (next : Mode) → left ≡ left_by command → e.environment new ≡ e.environment mid → Executed e mid input settings.indent_size kills command new kills' proceeds
+  pub proceeds_out : (left : Option Deferred) (next : Mode) → left ≡ deferred_by command → e.environment new ≡ e.environment mid → Executed e mid input settings.indent_size kills command new kills' proceeds
       → AnswersCommand settings (e.environment new) left modes.Editing (e.draft new) (e.draft last) next
       → DoesInSearch by search says command input (editor_of e old kills) (editor_of e last kills') next proceeds
   proceeds_out left next is same done answers =
-      let A : Environment → Option Left → Type 0 = λ w l. AnswersCommand settings w l modes.Editing (e.draft new) (e.draft last) next in
+      let A : Environment → Option Deferred → Type 0 = λ w l. AnswersCommand settings w l modes.Editing (e.draft new) (e.draft last) next in
       leaves_so next proceeds done (subst (λ l. A (e.environment old) l) is (subst (λ w. A w left) (same ∙ frame.environment) answers), refl)
 
 -- one that does not proceed leaves nothing to be answered

@@ -5,7 +5,7 @@ use Rattle.line_parts.specs.Environment.{Environment}
 use Rattle.line_editor.specs.Editor.{Editor, Ruler, proceeds}
 use Rattle.line_editor.specs.Input.{Input}
 use Rattle.line_editor.specs.Keymap.{Keymap}
-use Rattle.line_editor.specs.Left.{left_by}
+use Rattle.line_editor.specs.Deferred.{deferred_by}
 use Rattle.line_editor.specs.Run as runs
 use Rattle.line_editor.specs.Run.{End, Run, dry, stopped}
 use Rattle.line_session.specs.Steps as steps
@@ -15,14 +15,14 @@ use Rattle.line_session.specs.declared.mode.Mode.TheVariants.{Editing}
 -- no command of a run that proceeds is one of those that are left to the program
 abbrev pub RunLeavesNone : {keymap : Keymap} {ruler : Ruler} {environment : Environment} {editor last : Editor} {input input' : Input} {items : List Item} {end : End}
     → Run keymap ruler environment editor input items last input' end → Type 0
-RunLeavesNone (runs.goes_on turn run) = (left_by turn.read.command ≡ None) × RunLeavesNone run
+RunLeavesNone (runs.goes_on turn run) = (deferred_by turn.read.command ≡ None) × RunLeavesNone run
 RunLeavesNone (runs.ends turn stops) = Unit {0}
 RunLeavesNone (runs.runs_dry begins cut) = Unit {0}
 
 -- the steps of a line are turns alone, and none of their commands is one of those that are left to the program
 abbrev pub StepsLeaveNone : {by : Rules} {over_calls : Bool} {start found : Standing} → Steps by over_calls start found → Type 0
 StepsLeaveNone steps.none = Unit {0}
-StepsLeaveNone (steps.turn before turn) = StepsLeaveNone before × (left_by turn.read.command ≡ None)
+StepsLeaveNone (steps.turn before turn) = StepsLeaveNone before × (deferred_by turn.read.command ≡ None)
 StepsLeaveNone (steps.item before taken) = ⊥
 StepsLeaveNone (steps.resume over before goes_on) = ⊥
 

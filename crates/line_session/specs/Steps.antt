@@ -16,13 +16,13 @@ use Rattle.line_editor.specs.Editor.{Answer, Editor, Leaves, Ruler, proceeds}
 use Rattle.line_editor.specs.Input.{Input}
 use Rattle.line_editor.specs.ItemShown.{ItemShown}
 use Rattle.line_editor.specs.Keymap.{Keymap}
-use Rattle.line_editor.specs.Left.{left_by}
+use Rattle.line_editor.specs.Deferred.{deferred_by}
 use Rattle.line_editor.specs.Phrase.{IsBeginning, Phrase}
 use Rattle.line_editor.specs.Read.{Read}
 use Rattle.line_editor.specs.Run.{CutShort, ready}
 use Rattle.line_editor.specs.Step.{step}
-use Rattle.line_editor.specs.declared.left.Left.{Left}
-use Rattle.line_editor.specs.declared.left.Left.TheVariants as lefts
+use Rattle.line_editor.specs.declared.deferred.Deferred.{Deferred}
+use Rattle.line_editor.specs.declared.deferred.Deferred.TheVariants as deferred
 use Rattle.line_session.specs.Completing.{BeginsCompletion, GivesUp, GoesOnTo, Lists, Replies, index_before, index_behind, reply_by}
 use Rattle.line_session.specs.Searching.{BeginsSearch, Search, Searches, search_cmd, search_value}
 use Rattle.line_session.specs.declared.mode.Mode.{Mode}
@@ -83,23 +83,23 @@ once_resized modes.Suspended = modes.Editing
 once_resized mode = mode
 
 -- what the program does about what a command left to it: to the draft, and to what the next items are read as
-abbrev pub AnswersCommand : Settings → Environment → Option Left → Mode → Draft → Draft → Mode → Type 0
-AnswersCommand settings environment (Some lefts.QuotedInsert) mode old new next = (new ≡ old) × (next ≡ modes.Quoting)
-AnswersCommand settings environment (Some lefts.Complete) (modes.Completing going) old new next =
+abbrev pub AnswersCommand : Settings → Environment → Option Deferred → Mode → Draft → Draft → Mode → Type 0
+AnswersCommand settings environment (Some deferred.QuotedInsert) mode old new next = (new ≡ old) × (next ≡ modes.Quoting)
+AnswersCommand settings environment (Some deferred.Complete) (modes.Completing going) old new next =
     GoesOnTo environment going (index_behind going) old new next
-AnswersCommand settings environment (Some lefts.Complete) (modes.Offering candidates) old new next =
+AnswersCommand settings environment (Some deferred.Complete) (modes.Offering candidates) old new next =
     Lists settings environment candidates old new next
-AnswersCommand settings environment (Some lefts.Complete) mode old new next = BeginsCompletion settings environment old new next
-AnswersCommand settings environment (Some lefts.CompleteBackward) (modes.Completing going) old new next =
+AnswersCommand settings environment (Some deferred.Complete) mode old new next = BeginsCompletion settings environment old new next
+AnswersCommand settings environment (Some deferred.CompleteBackward) (modes.Completing going) old new next =
     GoesOnTo environment going (index_before going) old new next
-AnswersCommand settings environment (Some lefts.Abort) (modes.Completing going) old new next = GivesUp environment going old new next
-AnswersCommand settings environment (Some lefts.ReverseSearchHistory) mode old new next = BeginsSearch environment Reverse old new next
-AnswersCommand settings environment (Some lefts.ForwardSearchHistory) mode old new next = BeginsSearch environment Forward old new next
-AnswersCommand settings environment (Some lefts.Suspend) mode old new next = (new ≡ old) × (next ≡ modes.Suspended)
+AnswersCommand settings environment (Some deferred.Abort) (modes.Completing going) old new next = GivesUp environment going old new next
+AnswersCommand settings environment (Some deferred.ReverseSearchHistory) mode old new next = BeginsSearch environment Reverse old new next
+AnswersCommand settings environment (Some deferred.ForwardSearchHistory) mode old new next = BeginsSearch environment Forward old new next
+AnswersCommand settings environment (Some deferred.Suspend) mode old new next = (new ≡ old) × (next ≡ modes.Suspended)
 AnswersCommand settings environment left mode old new next = (new ≡ old) × (next ≡ modes.Editing)
 
 -- the same after a turn with this answer: the program does something where it proceeds, and else nothing is under way any more
-abbrev pub AnswersTurn : Rules → Answer → Option Left → Mode → Editor → Editor → Mode → Type 0
+abbrev pub AnswersTurn : Rules → Answer → Option Deferred → Mode → Editor → Editor → Mode → Type 0
 AnswersTurn by proceeds left mode old new next =
     AnswersCommand by.settings by.environment left mode old.draft new.draft next × (new.kills ≡ old.kills)
 AnswersTurn by _ left mode old new next = (new ≡ old) × (next ≡ modes.Editing)
@@ -108,7 +108,7 @@ AnswersTurn by _ left mode old new next = (new ≡ old) × (next ≡ modes.Editi
 pub record ExecutesAndAnswers (by : Rules) (mode : Mode) (command : Command) (input : Input) (found new : Editor) (next : Mode) (answer : Answer) : Type 0 where
   pub executed : Editor
   pub leaves : Leaves (step by.ruler by.environment input found command) executed answer
-  pub answers : AnswersTurn by answer (left_by command) mode executed new next
+  pub answers : AnswersTurn by answer (deferred_by command) mode executed new next
 
 -- a search does what a command says to it; another command ends it, and is executed once the line was drawn after its own prompt
 abbrev pub DoesInSearch : Rules → Search → Option SearchCmd → Command → Input → Editor → Editor → Mode → Answer → Type 0

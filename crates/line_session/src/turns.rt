@@ -25,7 +25,7 @@ use crate::searching::{SearchCmd, Searching, search};
 use line_buffer::KillRing;
 use line_config::{Config, Prompt, ReadlineError, Result};
 use line_editor::binding::ConditionalEventHandler;
-use line_editor::{InputState, Left, Turned, do_turn, execute, read_turn, take_turn};
+use line_editor::{Deferred, InputState, Turned, do_turn, execute, read_turn, take_turn};
 use line_keys::cmd::Cmd;
 use line_keys::editor_state::EditorState;
 use line_keys::raw_reader::RawReader;
@@ -475,7 +475,7 @@ fn do_in_search<
 /// shows.
 fn answer<E: Modal>(
     alloc: Global,
-    left: Option<Left>,
+    left: Option<Deferred>,
     mode: &mut Mode,
     state: &mut E,
     config: &Config,
@@ -499,7 +499,7 @@ fn answer<E: Modal>(
 /// Does what a command left to the program. Returns what the next items are read as.
 fn next_mode<E: Modal>(
     alloc: Global,
-    left: Left,
+    left: Deferred,
     mode: Mode,
     state: &mut E,
     config: &Config,
@@ -512,16 +512,16 @@ fn next_mode<E: Modal>(
     ensures faults { FaultsOnly result }
 {
     match left {
-        Left::QuotedInsert => Ok(Mode::Quoting),
-        Left::Complete => complete_on(mode, state, config),
-        Left::CompleteBackward => match mode {
+        Deferred::QuotedInsert => Ok(Mode::Quoting),
+        Deferred::Complete => complete_on(mode, state, config),
+        Deferred::CompleteBackward => match mode {
             Mode::Completing(going) => going.show_previous(state),
             _ => Ok(Mode::Editing),
         },
-        Left::Abort => give_up(mode, state),
-        Left::ReverseSearchHistory => search(alloc, SearchDirection::Reverse, state),
-        Left::ForwardSearchHistory => search(alloc, SearchDirection::Forward, state),
-        Left::Suspend => suspend(alloc, state),
+        Deferred::Abort => give_up(mode, state),
+        Deferred::ReverseSearchHistory => search(alloc, SearchDirection::Reverse, state),
+        Deferred::ForwardSearchHistory => search(alloc, SearchDirection::Forward, state),
+        Deferred::Suspend => suspend(alloc, state),
     }
 }
 
@@ -530,7 +530,7 @@ fn next_mode<E: Modal>(
 fn complete_on<E: Modal>(mode: Mode, state: &mut E, config: &Config) -> Result<Mode>
     requires { IsLineShown E.EditorState state.old }
     ensures answers { IfOk result (AnswersCommand config.now (E.environment state.old)
-        (Some Left.Complete) mode (E.draft state.old) (E.draft state.new)) }
+        (Some Deferred.Complete) mode (E.draft state.old) (E.draft state.new)) }
     ensures shown { IfOk result (λ mode. IsShownIn E.EditorState mode state.new) }
     ensures frame { Frame E.EditorState state.old state.new }
     ensures faults { FaultsOnly result }
@@ -546,7 +546,7 @@ fn complete_on<E: Modal>(mode: Mode, state: &mut E, config: &Config) -> Result<M
 fn give_up<E: Modal>(mode: Mode, state: &mut E) -> Result<Mode>
     requires { IsLineShown E.EditorState state.old }
     ensures answers { (settings : Settings) → IfOk result
-        (AnswersCommand settings (E.environment state.old) (Some Left.Abort) mode
+        (AnswersCommand settings (E.environment state.old) (Some Deferred.Abort) mode
         (E.draft state.old) (E.draft state.new)) }
     ensures shown { IfOk result (λ mode. IsShownIn E.EditorState mode state.new) }
     ensures frame { Frame E.EditorState state.old state.new }

@@ -1,13 +1,14 @@
 //! The hint, put into the line.
 ghost use Rattle.line_editor.specs.Outcomes.{DoesCommand};
 ghost use Rattle.line_keys.specs.Command as commands;
-ghost use Rattle.std.specs.Prelude.{◌≡◌, option_and_then, option_map, OnOk};
+ghost use Rattle.std.specs.Prelude.{◌≡◌, true, option_and_then, option_map, OnErr, OnOk};
 ghost use Rattle.line_editor.specs.Editor.{with_edited};
 ghost use Rattle.line_editor.specs.DraftEdits.{with_completion_at_end};
-ghost use Rattle.line_keys.specs.Model.Draft.{start_text};
-ghost use Rattle.line_keys.specs.Model.Drawing.{DrewNothing};
+ghost use Rattle.line_keys.specs.Model.Draft.{hinted, KeepsText, start_text};
+ghost use Rattle.line_keys.specs.Model.Drawing.{DrewNothing, Undrawn};
 ghost use Rattle.line_keys.specs.Model.Fault.{FaultLeaves};
-ghost use Rattle.line_keys.specs.Model.Frame.{FailsByRenderer, Frame};
+ghost use Rattle.line_keys.specs.Model.Frame.{FailsByRenderer, FailsOnlyIf, Frame};
+ghost use Rattle.line_parts.specs.Asks.{for_hint, is_sure};
 ghost use Rattle.line_parts.specs.Hint.{suggestion_of};
 
 use crate::edit::State;
@@ -36,6 +37,28 @@ impl<'out, 'prompt, W: Renderer, H: Helper, P: Prompt, S: History> State<
     P,
     S,
 > {
+    /// Asks the helper for the hint of the line; a hint that displays nothing counts as none.
+    /// Nothing is drawn.
+    ///
+    /// # Errors
+    /// `Io` if the helper fails, or the history that it asks, and `Memory` if memory runs out. The
+    /// hint then stays, and so does all else.
+    pub fn hint(&mut self) -> Result<()>
+        ensures draft { let e = ⟦<Self as EditorState>⟧ in OnOk result
+            (e.draft self.new ≡ hinted (e.environment self.old) (e.draft self.old)) }
+        ensures err { let d = ⟦<Self as EditorState>⟧.draft in
+            OnErr result (d self.new ≡ d self.old) }
+        ensures text { let d = ⟦<Self as EditorState>⟧.draft in
+            KeepsText (d self.old) (d self.new) }
+        ensures undrawn { Undrawn ⟦<Self as EditorState>⟧ self.old self.new }
+        ensures fails { let e = ⟦<Self as EditorState>⟧ in FailsOnlyIf result
+            (is_sure (e.sure self.old) for_hint ≡ true → ⊥)
+            (e.failures self.old) (e.failures self.new) }
+    {
+        self.line.hint = self.context.hint(self.alloc, self.line.edited.line())?;
+        Ok(())
+    }
+
     // Puts what the hint completes the line with at the end of the cursor's line, asks for the next
     // hint and draws the line. There is a beep where the hint completes nothing. Without a hint
     // nothing happens.
