@@ -1,11 +1,13 @@
 -- Facts on edits.
-use Rattle.std.proofs.Common.{◌≡◌, ℕ, true, false, cond, List, Option, Some, None, is_some, option_map, unwrap_or, refl, ap}
+use Rattle.std.proofs.Common.{◌≡◌, ◌∙◌, ℕ, true, false, cond, List, Option, Some, None, is_some, option_map, unwrap_or, refl, ap}
 use Rattle.line_buffer.specs.Line.{Line, moved_to}
+use Rattle.line_keys.specs.Command.{Command}
 use Rattle.line_keys.specs.Model.Draft.{Draft, in_group, out_of_group}
 use Rattle.line_parts.specs.Environment.{Environment, verdict_on}
 use Rattle.line_parts.specs.Hint.{suggestion_of}
 use Rattle.line_parts.specs.Verdict.{Verdict, valid}
 use Rattle.line_parts.specs.declared.hint.Hint.{Ghosts}
+use Rattle.line_input.specs.Ruler.{grouped}
 use Rattle.line_editor.specs.Accept.{validated, unhinted_by}
 
 -- a move keeps the text
@@ -40,3 +42,7 @@ pub shown_hint : {T : Type 0} → (words : Ghosts T) → (hint : Option T)
     → option_map (λ s. s.display) (option_map (suggestion_of words) hint) ≡ option_map words.display_text hint
 shown_hint words None = refl
 shown_hint words (Some h) = refl
+
+-- a group begins alike for commands that are the same
+pub grouped_so : (command command' : Command) (draft new : Draft) → command ≡ command' → new ≡ grouped command draft → new ≡ grouped command' draft
+grouped_so command command' draft new same is = is ∙ ap (λ c. grouped c draft) same
