@@ -8,7 +8,7 @@ use Rattle.line_keys.specs.Item.{Item, key, paste}
 use Rattle.line_keys.specs.Model.ShownLine.{HasRightLayout, HasShownEnd, IsAtEnd, IsInPlace, ShowsNoHint}
 use Rattle.line_keys.specs.declared.editor_state.EditorState as editors
 use Rattle.line_keys.specs.declared.raw_reader.RawReader as readers
-use Rattle.line_editor.specs.Editor.{Answer, Leaves, ended, interrupted, own_ruler, proceeds, submitted}
+use Rattle.line_editor.specs.Editor.{Leaves, ended, interrupted, own_ruler, proceeds, submitted}
 use Rattle.line_editor.specs.Input.{Input}
 use Rattle.line_editor.specs.ItemShown.{any_drawn}
 use Rattle.line_editor.specs.Keymap.{Keymap, keymap_of}

@@ -20,6 +20,7 @@ ghost use Rattle.line_session.specs.Taken.{TurnsComeTo, is_settled};
 
 use crate::modal::{Line, Modal};
 use crate::mode::Mode;
+use crate::setup::Setup;
 use crate::turns::take_turns;
 use line_buffer::{KillRing, Unit};
 use line_config::{Config, Prompt, Result};
@@ -68,7 +69,7 @@ fn give_back<T, U>(one: &mut T, other: &mut U)
 
 /// Leaves the terminal's cursor below a line that has ended. Returns how it ended. Where the line
 /// awaits more items, all stays.
-fn leave<E: Modal>(alloc: Global, turned: Result<Turned>, state: &mut E) -> Result<Turned>
+fn leave<E: Modal>(turned: Result<Turned>, state: &mut E) -> Result<Turned>
     ensures ended { IfOk result (λ done. turned ≡ Ok done) }
     ensures display { result ≡ Ok Turned.NeedsMore → E.display state.new ≡ E.display state.old }
     ensures draft { E.draft state.new ≡ E.draft state.old }
@@ -80,13 +81,13 @@ fn leave<E: Modal>(alloc: Global, turned: Result<Turned>, state: &mut E) -> Resu
         return Ok(done);
     }
     state.move_cursor_to_end()?;
-    state.move_cursor_at_leftmost(alloc)?;
+    state.move_cursor_at_leftmost()?;
     Ok(done)
 }
 
 /// Takes the terminal's cursor to the first column, below what stands there of a list or of another
 /// program, if something may.
-fn leave_others<E: Modal>(alloc: Global, mode: &Mode, state: &mut E) -> Result<()>
+fn leave_others<E: Modal>(mode: &Mode, state: &mut E) -> Result<()>
     ensures draft { E.draft state.new ≡ E.draft state.old }
     ensures frame { Frame E.EditorState state.old state.new }
     ensures faults { FaultsOnly result }
@@ -94,7 +95,7 @@ fn leave_others<E: Modal>(alloc: Global, mode: &Mode, state: &mut E) -> Result<(
     if !mode.is_above_others() {
         return Ok(());
     }
-    state.move_cursor_at_leftmost(alloc)
+    state.move_cursor_at_leftmost()
 }
 
 /// Returns whether the line is to be drawn before the next key is read: unless more keys are
@@ -125,42 +126,41 @@ pub(crate) fn line_of(alloc: Global, left: &str, right: &str) -> Result<EditedLi
 }
 
 /// Begins a line after the prompt. It is to be drawn.
-pub(crate) fn begin<'out, 'prompt, O: Write + Drop, H: Helper, S: History>(
-    alloc: Global,
-    screen: &'out mut Ansi<O, KeyQueue>,
-    prompt: &'prompt (String, String),
-    helper: &'out mut H,
-    history: &'out S,
+pub(crate) fn begin<O: Write + Drop, H: Helper + Drop, S: History + Drop>(
+    screen: &mut Ansi<O, KeyQueue>,
+    helper: &mut H,
+    setup: &Setup<S>,
     edited: EditedLine,
-    config: &Config,
 ) -> Begun<H>
     ensures fits { (items : List Item) → FitsScreen result.line result.mode result.draws items
         (⟦<Ansi<O, KeyQueue> as ScreenState>⟧.surface screen.new)
-        (⟦<Ansi<O, KeyQueue> as ScreenState>⟧.screen screen.new) (string_bytes prompt.now.0)
+        (⟦<Ansi<O, KeyQueue> as ScreenState>⟧.screen screen.new)
+        (string_bytes setup.now.prompt.0)
         (answers_of H.hint_at H.verdict_at H.lights H.Completer
-        helper.new (S.lines history.now)) }
-    ensures draft { result.line.draft ≡ record (empty_draft (length (S.lines history.now))) {
-      line = edited.line;
-      changes = edited.changes;
-    } }
-    ensures input { remembered_input result.input ≡ first_input config.now.edit_mode }
+        helper.new (S.lines setup.now.history)) }
+    ensures draft { result.line.draft
+        ≡ record (empty_draft (length (S.lines setup.now.history))) {
+          line = edited.line;
+          changes = edited.changes;
+        } }
+    ensures input { remembered_input result.input ≡ first_input setup.now.config.edit_mode }
     ensures mode { result.mode ≡ Mode.Editing }
     ensures draws { result.draws ≡ true }
     ensures prompt { result.line.drawing.prompt_end
         ≡ (⟦<Ansi<O, KeyQueue> as ScreenState>⟧.surface screen.old).measure
-        (string_bytes prompt.now.0) corner }
+        (string_bytes setup.now.prompt.0) corner }
     ensures surface { ⟦<Ansi<O, KeyQueue> as ScreenState>⟧.surface screen.new
         ≡ ⟦<Ansi<O, KeyQueue> as ScreenState>⟧.surface screen.old }
     ensures answers { (lines : List (List ℕ))
         → answers_of H.hint_at H.verdict_at H.lights H.Completer helper.new lines
         ≡ answers_of H.hint_at H.verdict_at H.lights H.Completer helper.old lines }
 {
-    let state = state_of(alloc, screen, prompt, helper, history, edited);
+    let state = state_of(screen, helper, setup, edited);
     let (line, out, lent) = state.release();
     let lent = lent.unwrap();
     let begun = Begun {
         line,
-        input: Remembered::new(config),
+        input: Remembered::new(&setup.config),
         mode: Mode::Editing,
         draws: true,
     };
@@ -169,59 +169,64 @@ pub(crate) fn begin<'out, 'prompt, O: Write + Drop, H: Helper, S: History>(
 }
 
 /// Returns the state of a line that begins.
-fn state_of<'out, 'prompt, O: Write + Drop, H: Helper, P: Prompt, S: History>(
-    alloc: Global,
+fn state_of<'out, O: Write + Drop, H: Helper, S: History + Drop>(
     screen: &'out mut Ansi<O, KeyQueue>,
-    prompt: &'prompt P,
     helper: &'out mut H,
-    history: &'out S,
+    setup: &'out Setup<S>,
     edited: EditedLine,
-) -> Line<'out, 'prompt, O, H, P, S>
-    ensures { let e = ⟦<Line<'out, 'prompt, O, H, P, S> as EditorState>⟧ in
+) -> Line<'out, 'out, O, H, (String, String), S>
+    ensures { let e = ⟦<Line<'out, 'out, O, H, (String, String), S> as EditorState>⟧ in
         let w = ⟦<Ansi<O, KeyQueue> as ScreenState>⟧ in
         EditorBegins e result
-        (record (empty_draft (length (S.lines history.now))) {
+        (record (empty_draft (length (S.lines setup.now.history))) {
           line = edited.line;
           changes = edited.changes;
         })
         (environment_by H.hint_at H.verdict_at H.lights H.Completer
-        (Some helper.entry) (S.lines history.now))
-        (sure_by H.Hinter.sure H.Validator.sure (S.sure history.now) (Some helper.entry))
+        (Some helper.entry) (S.lines setup.now.history))
+        (sure_by H.Hinter.sure H.Validator.sure (S.sure setup.now.history) (Some helper.entry))
         (never_drawn (w.surface screen.entry.now) (w.screen screen.entry.now)
-        (P.raw_text prompt.now))
+        (string_bytes setup.now.prompt.0))
         (w.failures screen.entry.now) (w.redraws screen.entry.now)
         (screen.entry.ghost_name, Some helper.entry.ghost_name) }
 {
-    let ctx = Context::new(history);
-    State::with_edited(alloc, screen, prompt, Some(helper), ctx, edited)
+    let ctx = Context::new(&setup.history);
+    State::with_edited(
+        setup.alloc,
+        screen,
+        &setup.prompt,
+        Some(helper),
+        ctx,
+        edited,
+    )
 }
 
-impl<H: Helper> Begun<H> {
+impl<H: Helper + Drop> Begun<H> {
     /// Gives the screen of a line another number of columns and of rows, draws the line, and keeps
     /// it again. A list ends, and a program that was suspended goes on: the line is drawn below
     /// what stands there. Where drawing fails, the line is to be drawn.
-    pub(crate) fn resized<'out, 'prompt, O: Write + Drop, S: History>(
+    pub(crate) fn resized<'out, O: Write + Drop, S: History + Drop>(
         self,
-        alloc: Global,
         screen: &'out mut Ansi<O, KeyQueue>,
-        prompt: &'prompt (String, String),
         helper: &'out mut H,
-        history: &'out S,
+        setup: &'out Setup<S>,
         columns: Unit,
         rows: Unit,
     ) -> (Begun<H>, Result<()>)
         requires columns { 0 < columns }
         requires fits { (items : List Item) × FitsScreen self.line self.mode self.draws items
             (⟦<Ansi<O, KeyQueue> as ScreenState>⟧.surface screen.old)
-            (⟦<Ansi<O, KeyQueue> as ScreenState>⟧.screen screen.old) (string_bytes prompt.now.0)
+            (⟦<Ansi<O, KeyQueue> as ScreenState>⟧.screen screen.old)
+            (string_bytes setup.now.prompt.0)
             (answers_of H.hint_at H.verdict_at H.lights H.Completer
-            helper.old (S.lines history.now)) }
+            helper.old (S.lines setup.now.history)) }
         ensures fits { (items : List Item)
             → FitsScreen result.0.line result.0.mode result.0.draws items
             (⟦<Ansi<O, KeyQueue> as ScreenState>⟧.surface screen.new)
-            (⟦<Ansi<O, KeyQueue> as ScreenState>⟧.screen screen.new) (string_bytes prompt.now.0)
+            (⟦<Ansi<O, KeyQueue> as ScreenState>⟧.screen screen.new)
+            (string_bytes setup.now.prompt.0)
             (answers_of H.hint_at H.verdict_at H.lights H.Completer
-            helper.new (S.lines history.now)) }
+            helper.new (S.lines setup.now.history)) }
         ensures draft { result.0.line.draft ≡ self.line.draft }
         ensures input { result.0.input ≡ self.input }
         ensures mode { result.0.mode ≡ once_resized self.mode }
@@ -240,8 +245,15 @@ impl<H: Helper> Begun<H> {
             mode,
             draws: _,
         } = self;
-        let mut state = State::resume(alloc, line, screen, prompt, Some(helper), history);
-        let left = leave_others(alloc, &mode, &mut state);
+        let mut state = State::resume(
+            setup.alloc,
+            line,
+            screen,
+            &setup.prompt,
+            Some(helper),
+            &setup.history,
+        );
+        let left = leave_others(&mode, &mut state);
         let drawn = state.resized(columns, rows);
         let (line, out, lent) = state.release();
         let lent = lent.unwrap();
@@ -256,34 +268,33 @@ impl<H: Helper> Begun<H> {
     }
 
     /// Takes turns of a line, as `take_turns` does, and keeps it again.
-    pub(crate) fn go_on<'out, 'prompt, O: Write + Drop, S: History, C: ConditionalEventHandler>(
+    pub(crate) fn go_on<'out, O: Write + Drop, S: History + Drop, C: ConditionalEventHandler>(
         self,
-        alloc: Global,
         screen: &'out mut Ansi<O, KeyQueue>,
-        prompt: &'prompt (String, String),
         helper: &'out mut H,
-        history: &'out S,
+        setup: &'out Setup<S>,
         bindings: &Bindings<C>,
         keys: &mut KeyQueue,
         kill_ring: &mut KillRing,
-        config: &Config,
     ) -> (Begun<H>, Result<Turned>)
         requires { FitsScreen self.line self.mode self.draws keys.old.rest
             (⟦<Ansi<O, KeyQueue> as ScreenState>⟧.surface screen.old)
-            (⟦<Ansi<O, KeyQueue> as ScreenState>⟧.screen screen.old) (string_bytes prompt.now.0)
+            (⟦<Ansi<O, KeyQueue> as ScreenState>⟧.screen screen.old)
+            (string_bytes setup.now.prompt.0)
             (answers_of H.hint_at H.verdict_at H.lights H.Completer
-            helper.old (S.lines history.now)) }
+            helper.old (S.lines setup.now.history)) }
         ensures fits { FitsScreen result.0.line result.0.mode result.0.draws keys.new.rest
             (⟦<Ansi<O, KeyQueue> as ScreenState>⟧.surface screen.new)
-            (⟦<Ansi<O, KeyQueue> as ScreenState>⟧.screen screen.new) (string_bytes prompt.now.0)
+            (⟦<Ansi<O, KeyQueue> as ScreenState>⟧.screen screen.new)
+            (string_bytes setup.now.prompt.0)
             (answers_of H.hint_at H.verdict_at H.lights H.Completer
-            helper.new (S.lines history.now)) }
+            helper.new (S.lines setup.now.history)) }
         ensures comes { let g = C.ConditionalEventHandler in
-            let lines = S.lines history.now in
+            let lines = S.lines setup.now.history in
             let asked = answers_of H.hint_at H.verdict_at H.lights H.Completer helper.old lines in
             IfOk result.1 (TurnsComeTo (not result.0.draws)
             (rules_for (bound_of g bindings.now) keys.old.binds
-            config.now self.line.drawing.prompt_end.col asked)
+            setup.now.config self.line.drawing.prompt_end.col asked)
             (starting asked self.draws
             (standing_with self.line.draft (remembered_input self.input) self.mode
             keys.old.rest kill_ring.old))
@@ -304,19 +315,25 @@ impl<H: Helper> Begun<H> {
             mut mode,
             draws,
         } = self;
-        let mut state = State::resume(alloc, line, screen, prompt, Some(helper), history);
+        let mut state = State::resume(
+            setup.alloc,
+            line,
+            screen,
+            &setup.prompt,
+            Some(helper),
+            &setup.history,
+        );
         let mut input_state = InputState::resume(input, bindings);
         let turned = take_turns(
-            alloc,
             draws,
             &mut mode,
             &mut state,
             &mut input_state,
             keys,
             kill_ring,
-            config,
+            &setup.config,
         );
-        let turned = leave(alloc, turned, &mut state);
+        let turned = leave(turned, &mut state);
         let draws = is_to_be_drawn(&mode, &turned, &state);
         let input = input_state.release();
         let (line, out, lent) = state.release();

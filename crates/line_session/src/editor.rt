@@ -14,6 +14,7 @@ ghost use Rattle.line_buffer.specs.KillRing.{empty_ring};
 ghost use Rattle.line_term.specs.Decoder.{Enqueues, finished, flushed, fresh, is_waiting, read};
 
 use crate::begun::{Begun, add, begin, copied_prompt, draw_anew, line_of};
+use crate::setup::Setup;
 use line_buffer::{KillRing, Unit};
 use line_config::{ColorMode, Config, Prompt, ReadlineError, Result};
 use line_editor::binding::ConditionalEventHandler;
@@ -64,30 +65,24 @@ pub enum Heard<'t> {
 /// A program with a loop of its own begins a line, feeds it the bytes that come, and flushes it
 /// when none have come for a moment, until the line is submitted or ends.
 pub struct Editor<O: Write + Drop, H: Helper + Drop, S: History + Drop> {
-    alloc: Global,
-    config: Config,
+    setup: Setup<S>,
     screen: Ansi<O, KeyQueue>,
     helper: H,
-    history: S,
     kill_ring: KillRing,
     decoder: Decoder,
     keys: KeyQueue,
-    prompt: (String, String),
     line: Option<Begun<H>>,
 }
 
 impl<O: Write + Drop, H: Helper + Drop, S: History + Drop> Drop for Editor<O, H, S> {
     fn drop(self) {
         let Editor {
-            alloc: _,
-            config: _,
+            setup: _,
             screen: _,
             helper: _,
-            history: _,
             kill_ring: _,
             decoder: _,
             keys: _,
-            prompt: _,
             line: _,
         } = self;
     }
@@ -111,39 +106,40 @@ impl<O: Write + Drop, H: Helper + Drop, S: History + Drop> Model for Editor<O, H
         mode = begun.mode;
         draws = begun.draws;
       }) e.line;
-      prompt = string_bytes e.prompt.0;
-      lines = S.lines e.history;
-      takes = S.rules e.history;
+      prompt = string_bytes e.setup.prompt.0;
+      lines = S.lines e.setup.history;
+      takes = S.rules e.setup.history;
       kills = e.kill_ring;
       items = e.keys.rest;
       binds = e.keys.binds;
       decoder = e.decoder;
       helper = e.helper;
-      settings = e.config;
+      settings = e.setup.config;
       columns = e.screen.shown.columns;
       rows = e.screen.shown.rows;
     } };
 
     // The line that has begun fits the screen, its prompt, and those who answer.
-    ghost invariant = { λ e. IfSome e.line (λ begun.
+    ghost invariant = { λ e. let screen = e.screen in let shown = screen.shown in IfSome e.line (λ begun.
         FitsScreen begun.line begun.mode begun.draws e.keys.rest
         (record {
-          measure = measured e.screen.shown.columns;
-          columns = e.screen.shown.columns;
-          rows = e.screen.shown.rows;
-          colors = e.screen.colors;
+          measure = measured shown.columns;
+          columns = shown.columns;
+          rows = shown.rows;
+          colors = screen.colors;
           mode = Unicode;
         })
-        (known_screen e.screen.shown.columns e.screen.whole e.screen.end (record {
-          position = e.screen.shown.place;
-          prompt = string_bytes e.screen.shown.prompt;
-          text = string_bytes e.screen.shown.text;
-          origin = e.screen.shown.origin;
-          behind = option_map string_bytes e.screen.shown.hint;
+        (known_screen shown.columns screen.whole screen.end (record {
+          position = shown.place;
+          prompt = string_bytes shown.prompt;
+          text = string_bytes shown.text;
+          origin = shown.origin;
+          behind = option_map string_bytes shown.hint;
           known = true;
         }))
-        (string_bytes e.prompt.0)
-        (answers_of H.hint_at H.verdict_at H.lights H.Completer e.helper (S.lines e.history))) };
+        (string_bytes e.setup.prompt.0)
+        (answers_of H.hint_at H.verdict_at H.lights H.Completer e.helper
+        (S.lines e.setup.history))) };
 }
 
 impl<O: Write + Drop, H: Helper + Drop, S: History + Drop> Editor<O, H, S> {
@@ -166,16 +162,19 @@ impl<O: Write + Drop, H: Helper + Drop, S: History + Drop> Editor<O, H, S> {
     {
         let colors = config.color_mode(None) != ColorMode::Disabled;
         let synchronized = config.enable_synchronized_output();
-        Editor {
+        let setup = Setup {
             alloc,
             config,
+            prompt: (String::new(alloc), String::new(alloc)),
+            history,
+        };
+        Editor {
+            setup,
             screen: Ansi::new(alloc, out, columns, colors, synchronized),
             helper,
-            history,
             kill_ring: KillRing::new(alloc, KILL_RING_SIZE),
             decoder: Decoder::new(alloc),
             keys: KeyQueue::new(alloc),
-            prompt: (String::new(alloc), String::new(alloc)),
             line: None,
         }
     }
@@ -220,7 +219,7 @@ impl<O: Write + Drop, H: Helper + Drop, S: History + Drop> Editor<O, H, S> {
         ensures lines { S.lines result.now ≡ self.now.lines }
         ensures takes { S.rules result.now ≡ self.now.takes }
     {
-        &self.history
+        &self.setup.history
     }
 
     /// Returns the history, so that it may be changed; None while a line goes on, which has its
@@ -232,7 +231,7 @@ impl<O: Write + Drop, H: Helper + Drop, S: History + Drop> Editor<O, H, S> {
     {
         match self.line {
             Some(_) => None,
-            None => Some(&mut self.history),
+            None => Some(&mut self.setup.history),
         }
     }
 
@@ -254,14 +253,14 @@ impl<O: Write + Drop, H: Helper + Drop, S: History + Drop> Editor<O, H, S> {
         if self.line.is_some() {
             return Ok(false);
         }
-        self.history.add(line)
+        self.setup.history.add(line)
     }
 
     /// Forgets what was killed, and keeps so many killed texts from now on.
     pub fn set_kill_ring_size(&mut self, size: usize)
         ensures { self.new ≡ record self.old { kills = empty_ring size } }
     {
-        self.kill_ring = KillRing::new(self.alloc, size);
+        self.kill_ring = KillRing::new(self.setup.alloc, size);
     }
 
     /// Returns the helper, so that it may be changed; None while a line goes on, which shows its
@@ -471,11 +470,9 @@ impl<O: Write + Drop, H: Helper + Drop, S: History + Drop> Editor<O, H, S> {
             return Ok(());
         };
         let (begun, drawn) = begun.resized(
-            self.alloc,
             &mut self.screen,
-            &self.prompt,
             &mut self.helper,
-            &self.history,
+            &self.setup,
             columns,
             rows,
         );
@@ -490,7 +487,7 @@ impl<O: Write + Drop, H: Helper + Drop, S: History + Drop> Editor<O, H, S> {
     /// `Eof` if the input ends, or by a command on an empty line; `Interrupted` if the person
     /// interrupts: no line goes on then. `Io` if the input, the output, a handler, the helper or
     /// the history fails, and `Memory` if memory runs out: `line` and `pos` then return the line,
-    /// or, if it could not begin, the one before. Hand it to `begin_with` to go on.
+    /// or, if it could not begin, the one before. To go on, hand it to `readline_with_initial`.
     pub fn readline<R: Read, P: Prompt, C: ConditionalEventHandler>(
         &mut self,
         input: &mut R,
@@ -618,21 +615,13 @@ impl<O: Write + Drop, H: Helper + Drop, S: History + Drop> Editor<O, H, S> {
         ensures stays { OnErr result (StaysOrDraws self.old self.new) }
         ensures faults { FaultsOnly result }
     {
-        let prompt = copied_prompt(self.alloc, prompt)?;
-        let edited = line_of(self.alloc, initial.0, initial.1)?;
+        let prompt = copied_prompt(self.setup.alloc, prompt)?;
+        let edited = line_of(self.setup.alloc, initial.0, initial.1)?;
         self.mark_pastes(true)?;
-        self.prompt = prompt;
+        self.setup.prompt = prompt;
         self.line = None;
         self.kill_ring.reset();
-        let begun = begin(
-            self.alloc,
-            &mut self.screen,
-            &self.prompt,
-            &mut self.helper,
-            &self.history,
-            edited,
-            &self.config,
-        );
+        let begun = begin(&mut self.screen, &mut self.helper, &self.setup, edited);
         self.line = Some(begun);
         Ok(())
     }
@@ -647,7 +636,7 @@ impl<O: Write + Drop, H: Helper + Drop, S: History + Drop> Editor<O, H, S> {
         ensures failed { OnErr result (self.new ≡ to_be_drawn self.old) }
         ensures faults { FaultsOnly result }
     {
-        if !self.config.enable_bracketed_paste() {
+        if !self.setup.config.enable_bracketed_paste() {
             return Ok(());
         }
         let told = if marked {
@@ -689,15 +678,12 @@ impl<O: Write + Drop, H: Helper + Drop, S: History + Drop> Editor<O, H, S> {
             return Ok(Fed::More);
         };
         let (begun, turned) = begun.go_on(
-            self.alloc,
             &mut self.screen,
-            &self.prompt,
             &mut self.helper,
-            &self.history,
+            &self.setup,
             bindings,
             &mut self.keys,
             &mut self.kill_ring,
-            &self.config,
         );
         self.line = Some(begun);
         self.end(turned)
@@ -748,12 +734,12 @@ impl<O: Write + Drop, H: Helper + Drop, S: History + Drop> Editor<O, H, S> {
         let Some(begun) = &self.line else {
             return Ok(Fed::More);
         };
-        let text = String::from_str(self.alloc, begun.line.line())?;
+        let text = String::from_str(self.setup.alloc, begun.line.line())?;
         self.mark_pastes(false)?;
         add(
-            self.config.auto_add_history(),
+            self.setup.config.auto_add_history(),
             text.as_str(),
-            &mut self.history,
+            &mut self.setup.history,
         )?;
         self.line = None;
         Ok(Fed::Submitted(text))

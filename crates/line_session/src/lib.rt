@@ -10,4 +10,5 @@ pub mod listing;
 mod modal;
 pub mod mode;
 pub mod searching;
+mod setup;
 mod turns;

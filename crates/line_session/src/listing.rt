@@ -12,7 +12,6 @@ use line_keys::editor_state::EditorState;
 use line_keys::keys::{KeyCode, KeyEvent, Modifiers};
 use line_keys::refresher::Refresher;
 use line_parts::completion::Pair;
-use std::alloc::Global;
 
 /// Candidates that are listed row by row: down the first column, then down the next.
 pub struct Listing {
@@ -107,7 +106,7 @@ impl Listing {
         let alloc = *self.candidates.allocator();
         let count = self.candidates.len();
         let question = format!(in alloc; "Display all {count} possibilities? (y or n)")?;
-        write_above(alloc, question.as_str(), state)?;
+        write_above(question.as_str(), state)?;
         Ok(Mode::Listing(self))
     }
 
@@ -126,7 +125,7 @@ impl Listing {
         match reply_by(self.next, item) {
             Reply::Page => self.list_page(state),
             Reply::Row => self.list_rows(1, state),
-            Reply::Stop => end(*self.candidates.allocator(), state),
+            Reply::Stop => end(state),
             Reply::Nothing => Ok(Mode::Listing(self)),
         }
     }
@@ -151,16 +150,15 @@ impl Listing {
         ensures frame { Frame E.EditorState state.old state.new }
         ensures faults { FaultsOnly result }
     {
-        let alloc = *self.candidates.allocator();
         let from = self.next.unwrap_or(0);
         let until = from.saturating_add(count).min(self.rows);
-        write_above(alloc, "", state)?;
-        let text = self.text(alloc, state, from, until)?;
-        write_above(alloc, text.as_str(), state)?;
+        write_above("", state)?;
+        let text = self.text(state, from, until)?;
+        write_above(text.as_str(), state)?;
         if until < self.rows {
             return Ok(self.paused(until));
         }
-        end(alloc, state)
+        end(state)
     }
 
     /// Returns the mode of a list that goes on with this row.
@@ -185,10 +183,10 @@ impl Listing {
 
     /// Returns the text of the rows from one to before another, each on a line of its own; and
     /// where these are not the last, `--More--` below them.
-    fn text<E: Modal>(&self, alloc: Global, state: &E, from: usize, until: usize) -> Result<String>
+    fn text<E: Modal>(&self, state: &E, from: usize, until: usize) -> Result<String>
         ensures memory { MemoryOnly result }
     {
-        let mut text = String::new(alloc);
+        let mut text = String::new(*self.candidates.allocator());
         for row in from..until {
             self.push_row(&mut text, state, row)?;
             text.push('\n')?;
@@ -240,29 +238,29 @@ fn width_of<E: Modal>(candidate: &Pair, state: &E) -> usize {
 
 /// Writes a text above the line, which is to be drawn below it. Where that fails, the cursor goes
 /// below what was written, if it can.
-fn write_above<E: Modal>(alloc: Global, text: &str, state: &mut E) -> Result<()>
+fn write_above<E: Modal>(text: &str, state: &mut E) -> Result<()>
     ensures draft { E.draft state.new ≡ E.draft state.old }
     ensures frame { Frame E.EditorState state.old state.new }
     ensures faults { FaultsOnly result }
 {
-    match state.write_above(alloc, text) {
+    match state.write_above(text) {
         Ok(()) => Ok(()),
         Err(error) => {
-            let _ = state.move_cursor_at_leftmost(alloc);
+            let _ = state.move_cursor_at_leftmost();
             Err(error)
         }
     }
 }
 
 /// Ends a list: draws the line below it.
-fn end<E: Modal>(alloc: Global, state: &mut E) -> Result<Mode>
+fn end<E: Modal>(state: &mut E) -> Result<Mode>
     ensures ends { IfOk result (EndsList (E.environment state.old) (E.draft state.old)
         (E.draft state.new)) }
     ensures shown { IfOk result (λ mode. IsShownIn E.EditorState mode state.new) }
     ensures frame { Frame E.EditorState state.old state.new }
     ensures faults { FaultsOnly result }
 {
-    write_above(alloc, "", state)?;
+    write_above("", state)?;
     state.refresh_line()?;
     Ok(Mode::Editing)
 }

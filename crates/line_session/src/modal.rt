@@ -93,17 +93,20 @@ pub(crate) trait Modal: Refresher {
             (search_in (Self.environment self.now).lines term.now start direction) }
         ensures faults { FaultsOnly result };
 
+    /// Returns the allocator of the line's memory.
+    fn allocator(&self) -> Global;
+
     /// Beeps.
     fn beep(&mut self) -> Result<()>
         ensures drew { DrewNothing Self.EditorState self.old self.new }
         ensures paints { Paints Self.EditorState false result self.old self.new };
 
     /// Writes a text by itself below what is shown.
-    fn write_above(&mut self, alloc: Global, text: &str) -> Result<()>
+    fn write_above(&mut self, text: &str) -> Result<()>
         ensures { Paints Self.EditorState false result self.old self.new };
 
     /// Takes the terminal's cursor to the first column, below what is there.
-    fn move_cursor_at_leftmost(&mut self, alloc: Global) -> Result<()>
+    fn move_cursor_at_leftmost(&mut self) -> Result<()>
         ensures { Paints Self.EditorState false result self.old self.new };
 
     /// Moves the screen cursor to where what is shown ends.
@@ -172,16 +175,22 @@ impl<'out, 'prompt, O: Write + Drop, H: Helper, P: Prompt, S: History> Modal
         self.history().search(term, start, direction)
     }
 
+    fn allocator(&self) -> Global {
+        self.allocator()
+    }
+
     fn beep(&mut self) -> Result<()> {
         self.beep()
     }
 
-    fn write_above(&mut self, alloc: Global, text: &str) -> Result<()> {
-        self.write_above(text, &mut KeyQueue::new(alloc))
+    fn write_above(&mut self, text: &str) -> Result<()> {
+        let mut no_keys = KeyQueue::new(self.allocator());
+        self.write_above(text, &mut no_keys)
     }
 
-    fn move_cursor_at_leftmost(&mut self, alloc: Global) -> Result<()> {
-        self.move_cursor_at_leftmost(&mut KeyQueue::new(alloc))
+    fn move_cursor_at_leftmost(&mut self) -> Result<()> {
+        let mut no_keys = KeyQueue::new(self.allocator());
+        self.move_cursor_at_leftmost(&mut no_keys)
     }
 
     fn move_cursor_to_end(&mut self) -> Result<()> {

@@ -18,7 +18,6 @@ use line_keys::cmd::Cmd;
 use line_keys::editor_state::EditorState;
 use line_keys::refresher::Refresher;
 use line_parts::history::SearchDirection;
-use std::alloc::Global;
 
 /// Where a search stands.
 #[derive(Clone, Copy)]
@@ -99,11 +98,7 @@ impl SearchCmd {
 /// # Errors
 /// `Io` if the output, the helper or the history fails, and `Memory` if memory runs out. The line,
 /// its changes and the hint may then be any, and so may what the screen shows.
-pub(crate) fn search<E: Modal>(
-    alloc: Global,
-    direction: SearchDirection,
-    state: &mut E,
-) -> Result<Mode>
+pub(crate) fn search<E: Modal>(direction: SearchDirection, state: &mut E) -> Result<Mode>
     requires { IsLineShown E.EditorState state.old }
     ensures begins { IfOk result (BeginsSearch (E.environment state.old) direction
         (E.draft state.old) (E.draft state.new)) }
@@ -116,6 +111,7 @@ pub(crate) fn search<E: Modal>(
         state.beep()?;
         return Ok(Mode::Editing);
     }
+    let alloc = state.allocator();
     let searching = Searching {
         term: String::new(alloc),
         place: Place {
@@ -129,7 +125,7 @@ pub(crate) fn search<E: Modal>(
         index: state.place(),
         grown: false,
     };
-    searching.draw(alloc, state)?;
+    searching.draw(state)?;
     Ok(Mode::Searching(searching))
 }
 
@@ -262,10 +258,9 @@ impl Searching {
         ensures frame { Frame E.EditorState state.old state.new }
         ensures faults { FaultsOnly result }
     {
-        let alloc = *self.shorter.allocator();
         self.take_back(state)?;
         self.grown = self.place.put(state)?;
-        self.draw(alloc, state)?;
+        self.draw(state)?;
         Ok(Mode::Searching(self))
     }
 
@@ -289,7 +284,7 @@ impl Searching {
     /// # Errors
     /// `Io` if the output, the helper or the history fails, and `Memory` if memory runs out. The
     /// line, its changes and the hint may then be any, and so may what the screen shows.
-    pub(crate) fn draw<E: Modal>(&self, alloc: Global, state: &mut E) -> Result<()>
+    pub(crate) fn draw<E: Modal>(&self, state: &mut E) -> Result<()>
         ensures draft { OnOk result (E.draft state.new ≡ hinted (E.environment state.old)
             (E.draft state.old)) }
         ensures drawn { OnOk result (IsShownBehind (search_prompt (search_value self.now))
@@ -297,17 +292,17 @@ impl Searching {
         ensures frame { Frame E.EditorState state.old state.new }
         ensures faults { FaultsOnly result }
     {
-        let prompt = self.prompt(alloc)?;
+        let prompt = self.prompt()?;
         state.refresh_prompt_and_line(prompt.as_str())
     }
 
     // Returns the prompt of the search.
-    fn prompt(&self, alloc: Global) -> Result<String>
+    fn prompt(&self) -> Result<String>
         ensures text { IfOk result (λ text.
             string_bytes text ≡ search_prompt (search_value self.now)) }
         ensures memory { MemoryOnly result }
     {
-        let mut prompt = String::new(alloc);
+        let mut prompt = String::new(*self.shorter.allocator());
         prompt.push_str(if self.place.failed {
             "(failed reverse-i-search)`"
         } else {

@@ -33,7 +33,6 @@ use line_keys::refresher::Refresher;
 use line_parts::history::SearchDirection;
 use line_parts::{Helper, History};
 use line_screen::KeyQueue;
-use std::alloc::Global;
 use std::io::Write;
 use std::mem;
 
@@ -62,7 +61,6 @@ pub(crate) fn take_turns<
     S: History,
     C: ConditionalEventHandler,
 >(
-    alloc: Global,
     draws: bool,
     mode: &mut Mode,
     state: &mut Line<'out, 'prompt, O, H, P, S>,
@@ -91,8 +89,8 @@ pub(crate) fn take_turns<
     ensures faults { FaultsOnly result }
     ensures ring { kill_ring.new.size ≡ kill_ring.old.size }
 {
-    draw_first(alloc, draws, mode, state)?;
-    let turned = turns(alloc, mode, state, input_state, keys, kill_ring, config);
+    draw_first(draws, mode, state)?;
+    let turned = turns(mode, state, input_state, keys, kill_ring, config);
     if turned.is_err() {
         *mode = Mode::Editing;
     }
@@ -106,7 +104,7 @@ pub(crate) fn take_turns<
 /// `Io` if the output, the helper or the history fails, and `Memory` if memory runs out. The mode
 /// is then as it was. The line, its changes and the hint may be any, and so may what the screen
 /// shows.
-fn draw_first<E: Modal>(alloc: Global, draws: bool, mode: &mut Mode, state: &mut E) -> Result<()>
+fn draw_first<E: Modal>(draws: bool, mode: &mut Mode, state: &mut E) -> Result<()>
     ensures starts { (input : Input) (items : List Item) (kills : Ring) →
         OnOk result (starting (E.environment state.old) draws
         (standing_with (E.draft state.old) input mode.old items kills)
@@ -118,12 +116,12 @@ fn draw_first<E: Modal>(alloc: Global, draws: bool, mode: &mut Mode, state: &mut
     ensures faults { FaultsOnly result }
 {
     if mode.is_suspended() {
-        resume(alloc, state)?;
+        resume(state)?;
         *mode = Mode::Editing;
         return Ok(());
     }
     if draws {
-        draw(alloc, mode, state)?;
+        draw(mode, state)?;
     }
     Ok(())
 }
@@ -133,14 +131,14 @@ fn draw_first<E: Modal>(alloc: Global, draws: bool, mode: &mut Mode, state: &mut
 /// # Errors
 /// `Io` if the output, the helper or the history fails, and `Memory` if memory runs out. The line,
 /// its changes and the hint may then be any, and so may what the screen shows.
-fn resume<E: Modal>(alloc: Global, state: &mut E) -> Result<()>
+fn resume<E: Modal>(state: &mut E) -> Result<()>
     ensures draft { OnOk result (E.draft state.new ≡ hinted (E.environment state.old)
         (E.draft state.old)) }
     ensures shown { OnOk result (IsLineShown E.EditorState state.new) }
     ensures frame { Frame E.EditorState state.old state.new }
     ensures faults { FaultsOnly result }
 {
-    state.move_cursor_at_leftmost(alloc)?;
+    state.move_cursor_at_leftmost()?;
     state.refresh_line()
 }
 
@@ -149,7 +147,7 @@ fn resume<E: Modal>(alloc: Global, state: &mut E) -> Result<()>
 /// # Errors
 /// `Io` if the output, the helper or the history fails, and `Memory` if memory runs out. The line,
 /// its changes and the hint may then be any, and so may what the screen shows.
-fn draw<E: Modal>(alloc: Global, mode: &Mode, state: &mut E) -> Result<()>
+fn draw<E: Modal>(mode: &Mode, state: &mut E) -> Result<()>
     ensures draft { OnOk result (E.draft state.new ≡ hinted (E.environment state.old)
         (E.draft state.old)) }
     ensures shown { OnOk result (IsShownIn E.EditorState mode.now state.new) }
@@ -157,7 +155,7 @@ fn draw<E: Modal>(alloc: Global, mode: &Mode, state: &mut E) -> Result<()>
     ensures faults { FaultsOnly result }
 {
     match mode {
-        Mode::Searching(searching) => searching.draw(alloc, state),
+        Mode::Searching(searching) => searching.draw(state),
         _ => state.refresh_line(),
     }
 }
@@ -172,7 +170,6 @@ fn turns<
     S: History,
     C: ConditionalEventHandler,
 >(
-    alloc: Global,
     mode: &mut Mode,
     state: &mut Line<'out, 'prompt, O, H, P, S>,
     input_state: &mut InputState<'_, C>,
@@ -209,7 +206,7 @@ fn turns<
         if mode.reads_no_command() {
             return Ok(Turned::NeedsMore);
         }
-        let turned = turn(alloc, mode, state, input_state, keys, kill_ring, config)?;
+        let turned = turn(mode, state, input_state, keys, kill_ring, config)?;
         match turned {
             Turned::Proceeds => {}
             Turned::NeedsMore => {
@@ -265,7 +262,6 @@ fn turn<
     S: History,
     C: ConditionalEventHandler,
 >(
-    alloc: Global,
     mode: &mut Mode,
     state: &mut Line<'out, 'prompt, O, H, P, S>,
     input_state: &mut InputState<'_, C>,
@@ -294,19 +290,11 @@ fn turn<
     ensures ring { kill_ring.new.size ≡ kill_ring.old.size }
 {
     if let Some(searching) = mode.take_search() {
-        let (turned, next) = search_turn(
-            alloc,
-            searching,
-            state,
-            input_state,
-            keys,
-            kill_ring,
-            config,
-        )?;
+        let (turned, next) = search_turn(searching, state, input_state, keys, kill_ring, config)?;
         *mode = next;
         return Ok(turned);
     }
-    edit_turn(alloc, mode, state, input_state, keys, kill_ring, config)
+    edit_turn(mode, state, input_state, keys, kill_ring, config)
 }
 
 /// Takes one turn outside of a search: reads a command, executes it, and answers what it left to
@@ -320,7 +308,6 @@ fn edit_turn<
     S: History,
     C: ConditionalEventHandler,
 >(
-    alloc: Global,
     mode: &mut Mode,
     state: &mut Line<'out, 'prompt, O, H, P, S>,
     input_state: &mut InputState<'_, C>,
@@ -352,7 +339,12 @@ fn edit_turn<
     let (turned, left) = take_turn(state, input_state, keys, kill_ring, config)?;
     match turned {
         Turned::Proceeds => {
-            answer(alloc, left, mode, state, config)?;
+            if let Some(left) = left {
+                let was = mem::replace(mode, Mode::Editing);
+                *mode = answer(left, was, state, config)?;
+                return Ok(Turned::Proceeds);
+            }
+            *mode = Mode::Editing;
             Ok(Turned::Proceeds)
         }
         Turned::NeedsMore => Ok(Turned::NeedsMore),
@@ -374,7 +366,6 @@ fn search_turn<
     S: History,
     C: ConditionalEventHandler,
 >(
-    alloc: Global,
     searching: Searching,
     state: &mut Line<'out, 'prompt, O, H, P, S>,
     input_state: &mut InputState<'_, C>,
@@ -405,15 +396,7 @@ fn search_turn<
     let Some(command) = read_turn(state, input_state, keys, kill_ring, true)? else {
         return Ok((Turned::NeedsMore, Mode::Searching(searching)));
     };
-    let (turned, next) = do_in_search(
-        alloc,
-        searching,
-        command,
-        state,
-        input_state,
-        kill_ring,
-        config,
-    )?;
+    let (turned, next) = do_in_search(searching, command, state, input_state, kill_ring, config)?;
     Ok((turned, next))
 }
 
@@ -428,7 +411,6 @@ fn do_in_search<
     S: History,
     C: ConditionalEventHandler,
 >(
-    alloc: Global,
     searching: Searching,
     command: Cmd,
     state: &mut Line<'out, 'prompt, O, H, P, S>,
@@ -457,9 +439,11 @@ fn do_in_search<
     let (turned, left) = do_turn(command, state, input_state, kill_ring, config)?;
     match turned {
         Turned::Proceeds => {
-            let mut next = Mode::Editing;
-            answer(alloc, left, &mut next, state, config)?;
-            Ok((Turned::Proceeds, next))
+            if let Some(left) = left {
+                let next = answer(left, Mode::Editing, state, config)?;
+                return Ok((Turned::Proceeds, next));
+            }
+            Ok((Turned::Proceeds, Mode::Editing))
         }
         _ => Ok((turned, Mode::Editing)),
     }
@@ -467,43 +451,12 @@ fn do_in_search<
 
 /// Answers what a command left to the program: begins a search or a completion, or goes on with
 /// one; beeps where nothing can be given up; and takes the cursor below the line where the program
-/// is asked to suspend itself. Another command ends what had begun.
+/// is asked to suspend itself. Returns what the next items are read as.
 ///
 /// # Errors
-/// `Io` if the output, the helper or the history fails, and `Memory` if memory runs out. Commands
-/// are then read next. The line, its changes and the hint may be any, and so may what the screen
-/// shows.
-fn answer<E: Modal>(
-    alloc: Global,
-    left: Option<Deferred>,
-    mode: &mut Mode,
-    state: &mut E,
-    config: &Config,
-) -> Result<()>
-    requires { IsLineShown E.EditorState state.old }
-    ensures answers { OnOk result (AnswersCommand config.now (E.environment state.old) left mode.old
-        (E.draft state.old) (E.draft state.new) mode.new) }
-    ensures shown { OnOk result (IsShownIn E.EditorState mode.new state.new) }
-    ensures frame { Frame E.EditorState state.old state.new }
-    ensures faults { FaultsOnly result }
-{
-    let Some(left) = left else {
-        *mode = Mode::Editing;
-        return Ok(());
-    };
-    let was = mem::replace(mode, Mode::Editing);
-    *mode = next_mode(alloc, left, was, state, config)?;
-    Ok(())
-}
-
-/// Does what a command left to the program. Returns what the next items are read as.
-fn next_mode<E: Modal>(
-    alloc: Global,
-    left: Deferred,
-    mode: Mode,
-    state: &mut E,
-    config: &Config,
-) -> Result<Mode>
+/// `Io` if the output, the helper or the history fails, and `Memory` if memory runs out. The line,
+/// its changes and the hint may then be any, and so may what the screen shows.
+fn answer<E: Modal>(left: Deferred, mode: Mode, state: &mut E, config: &Config) -> Result<Mode>
     requires { IsLineShown E.EditorState state.old }
     ensures answers { IfOk result (AnswersCommand config.now (E.environment state.old) (Some left)
         mode (E.draft state.old) (E.draft state.new)) }
@@ -519,9 +472,9 @@ fn next_mode<E: Modal>(
             _ => Ok(Mode::Editing),
         },
         Deferred::Abort => give_up(mode, state),
-        Deferred::ReverseSearchHistory => search(alloc, SearchDirection::Reverse, state),
-        Deferred::ForwardSearchHistory => search(alloc, SearchDirection::Forward, state),
-        Deferred::Suspend => suspend(alloc, state),
+        Deferred::ReverseSearchHistory => search(SearchDirection::Reverse, state),
+        Deferred::ForwardSearchHistory => search(SearchDirection::Forward, state),
+        Deferred::Suspend => suspend(state),
     }
 }
 
@@ -560,14 +513,14 @@ fn give_up<E: Modal>(mode: Mode, state: &mut E) -> Result<Mode>
 }
 
 /// Takes the cursor below the line, where a program writes that goes on in its place.
-fn suspend<E: Modal>(alloc: Global, state: &mut E) -> Result<Mode>
+fn suspend<E: Modal>(state: &mut E) -> Result<Mode>
     ensures draft { IfOk result (λ mode. (E.draft state.new ≡ E.draft state.old) ×
         (mode ≡ Mode.Suspended)) }
     ensures frame { Frame E.EditorState state.old state.new }
     ensures faults { FaultsOnly result }
 {
     state.move_cursor_to_end()?;
-    state.move_cursor_at_leftmost(alloc)?;
+    state.move_cursor_at_leftmost()?;
     Ok(Mode::Suspended)
 }
 

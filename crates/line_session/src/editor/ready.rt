@@ -31,7 +31,7 @@ impl<O: Write + Drop, H: Helper + Drop> Editor<O, H, FileHistory> {
         if self.line.is_some() {
             return Ok(None);
         }
-        let taken = self.history.load_from(reader)?;
+        let taken = self.setup.history.load_from(reader)?;
         Ok(Some(taken))
     }
 
@@ -51,7 +51,7 @@ impl<O: Write + Drop, H: Helper + Drop> Editor<O, H, FileHistory> {
         if self.line.is_some() {
             return Ok(false);
         }
-        self.history.save_v3_to(out, append)?;
+        self.setup.history.save_v3_to(out, append)?;
         Ok(true)
     }
 }

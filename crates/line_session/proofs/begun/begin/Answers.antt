@@ -12,5 +12,5 @@ returns-clause-answers g c =
     let back = c.helper-1.given.1 (cc) ∙ c.give_back.ensures.other in
     let after = answers_back _ _ _ g.H.Completer _ c.unwrap-lent.result _ _ _ _ c.unwrap-lent.ensures c.release-line.ensures.environment refl begins.environment in
     answers_any g.H.Hinter.hint_at g.H.Validator.verdict_at g.H.Highlighter.lights g.H.Completer _ _ _
-    (ap (λ h. answers_of g.H.Hinter.hint_at g.H.Validator.verdict_at g.H.Highlighter.lights g.H.Completer h (g.S.History.lines c.args.history.now)) back
+    (ap (λ h. answers_of g.H.Hinter.hint_at g.H.Validator.verdict_at g.H.Highlighter.lights g.H.Completer h (g.S.History.lines c.args.setup.now.history)) back
     ∙ sym after ∙ begins.environment ∙ lent_answers _ _ _ g.H.Completer _ _)

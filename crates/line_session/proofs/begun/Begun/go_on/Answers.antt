@@ -19,12 +19,12 @@ take_turns-turned-requires g c = record {
 pub returns-clause-answers : goal.returns-clause-answers
 returns-clause-answers g c =
     let names = c.release-line.ensures.loan ∙ c.leave-turned.ensures.frame.loan ∙ c.take_turns-turned.ensures.keeps.frame.loan ∙ c.resume-state.ensures.loan in
-    let both : Some c.resume-arg-2-1.given ≡ Some c.unwrap-lent.result.ghost_name =
+    let both : Some c.resume-arg-3-1.given ≡ Some c.unwrap-lent.result.ghost_name =
     sym (ap (λ p. p.1) names) ∙ ap (λ o. option_map (λ h. h.ghost_name) o) c.unwrap-lent.ensures in
     let back = c.helper-1.given.1 (cc) ∙ c.give_back.ensures.other in
     let after = answers_back _ _ _ g.H.Completer _ c.unwrap-lent.result _ _ _ _ c.unwrap-lent.ensures c.release-line.ensures.environment (c.leave-turned.ensures.frame.environment ∙ c.take_turns-turned.ensures.keeps.frame.environment) c.resume-state.ensures.environment in
     answers_any g.H.Hinter.hint_at g.H.Validator.verdict_at g.H.Highlighter.lights g.H.Completer _ _ _
-    (ap (λ h. answers_of g.H.Hinter.hint_at g.H.Validator.verdict_at g.H.Highlighter.lights g.H.Completer h (g.S.History.lines c.args.history.now)) back
+    (ap (λ h. answers_of g.H.Hinter.hint_at g.H.Validator.verdict_at g.H.Highlighter.lights g.H.Completer h (g.S.History.lines c.args.setup.now.history)) back
     ∙ sym after ∙ c.leave-turned.ensures.frame.environment ∙ c.take_turns-turned.ensures.keeps.frame.environment ∙ c.resume-state.ensures.environment ∙ lent_answers _ _ _ g.H.Completer _ _)
 
 pub returns-clause-comes : goal.returns-clause-comes
@@ -39,7 +39,7 @@ returns-clause-comes g c =
 pub returns-clause-fits : goal.returns-clause-fits
 returns-clause-fits g c =
     let names = c.release-line.ensures.loan ∙ c.leave-turned.ensures.frame.loan ∙ c.take_turns-turned.ensures.keeps.frame.loan ∙ c.resume-state.ensures.loan in
-    let both : Some c.resume-arg-2-1.given ≡ Some c.unwrap-lent.result.ghost_name =
+    let both : Some c.resume-arg-3-1.given ≡ Some c.unwrap-lent.result.ghost_name =
     sym (ap (λ p. p.1) names) ∙ ap (λ o. option_map (λ h. h.ghost_name) o) c.unwrap-lent.ensures in
     let back = c.helper-1.given.1 (cc) ∙ c.give_back.ensures.other in
     let screen = c.screen-1.given.1 (sym (ap (λ p. p.0) names)) ∙ c.give_back.ensures.one in
@@ -50,7 +50,7 @@ returns-clause-fits g c =
     (λ a. known_screen a.shown.columns a.whole a.end (record { position = a.shown.place; prompt = string_bytes a.shown.prompt; text = string_bytes a.shown.text; origin = a.shown.origin; behind = option_map string_bytes a.shown.hint; known = true }))
     c.release-line.result.0 c.take_turns-turned.new.mode c.is_to_be_drawn-draws.result c.take_turns-turned.new.keys.rest _ _ _ _ _ _ screen
     (sym (c.leave-turned.ensures.frame.prompt ∙ c.take_turns-turned.ensures.keeps.frame.prompt ∙ prompt))
-    (ap (λ h. answers_of g.H.Hinter.hint_at g.H.Validator.verdict_at g.H.Highlighter.lights g.H.Completer h (g.S.History.lines c.args.history.now)) back ∙ sym after)
+    (ap (λ h. answers_of g.H.Hinter.hint_at g.H.Validator.verdict_at g.H.Highlighter.lights g.H.Completer h (g.S.History.lines c.args.setup.now.history)) back ∙ sym after)
     (record {
       left = c.release-line.ensures.left;
       within = c.release-line.ensures.within;

@@ -11,15 +11,15 @@ returns-clause-shown g c =
     let asked = answers_of g.H.Hinter.hint_at g.H.Validator.verdict_at g.H.Highlighter.lights g.H.Completer in
     let old : Sitting g.row.H.Denot = record {
       line = option_map (λ b. record { kept = b.line; input = remembered_input b.input; mode = b.mode; draws = b.draws }) c.self.inside.line;
-      prompt = string_bytes c.self.inside.prompt.0;
-      lines = g.S.History.lines c.self.inside.history;
-      takes = g.S.History.rules c.self.inside.history;
+      prompt = string_bytes c.self.inside.setup.prompt.0;
+      lines = g.S.History.lines c.self.inside.setup.history;
+      takes = g.S.History.rules c.self.inside.setup.history;
       kills = c.self.inside.kill_ring;
       items = c.self.inside.keys.rest;
       binds = c.self.inside.keys.binds;
       decoder = c.self.inside.decoder;
       helper = c.self.inside.helper;
-      settings = c.self.inside.config;
+      settings = c.self.inside.setup.config;
       columns = c.self.inside.screen.shown.columns;
       rows = c.self.inside.screen.shown.rows;
     } in

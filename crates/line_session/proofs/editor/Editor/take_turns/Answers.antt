@@ -14,15 +14,15 @@ returns-clause-came g c =
     let bound = bound_of g.C.ConditionalEventHandler c.args.bindings.now in
     let old : Sitting g.row.H.Denot = record {
       line = option_map (λ b. record { kept = b.line; input = remembered_input b.input; mode = b.mode; draws = b.draws }) c.self.inside.line;
-      prompt = string_bytes c.self.inside.prompt.0;
-      lines = g.S.History.lines c.self.inside.history;
-      takes = g.S.History.rules c.self.inside.history;
+      prompt = string_bytes c.self.inside.setup.prompt.0;
+      lines = g.S.History.lines c.self.inside.setup.history;
+      takes = g.S.History.rules c.self.inside.setup.history;
       kills = c.self.inside.kill_ring;
       items = c.self.inside.keys.rest;
       binds = c.self.inside.keys.binds;
       decoder = c.self.inside.decoder;
       helper = c.self.inside.helper;
-      settings = c.self.inside.config;
+      settings = c.self.inside.setup.config;
       columns = c.self.inside.screen.shown.columns;
       rows = c.self.inside.screen.shown.rows;
     } in
@@ -42,15 +42,15 @@ returns-clause-keeps g c =
     let rows = ap (λ (s : Surface). s.rows) c.go_on-begun.ensures.surface in
     let old : Sitting g.row.H.Denot = record {
       line = option_map (λ b. record { kept = b.line; input = remembered_input b.input; mode = b.mode; draws = b.draws }) c.self.inside.line;
-      prompt = string_bytes c.self.inside.prompt.0;
-      lines = g.S.History.lines c.self.inside.history;
-      takes = g.S.History.rules c.self.inside.history;
+      prompt = string_bytes c.self.inside.setup.prompt.0;
+      lines = g.S.History.lines c.self.inside.setup.history;
+      takes = g.S.History.rules c.self.inside.setup.history;
       kills = c.self.inside.kill_ring;
       items = c.self.inside.keys.rest;
       binds = c.self.inside.keys.binds;
       decoder = c.self.inside.decoder;
       helper = c.self.inside.helper;
-      settings = c.self.inside.config;
+      settings = c.self.inside.setup.config;
       columns = c.self.inside.screen.shown.columns;
       rows = c.self.inside.screen.shown.rows;
     } in
