@@ -1,5 +1,5 @@
 //! Bytes that wait to be written to a terminal.
-ghost use Rattle.std.specs.Prelude.{◌≡◌, []};
+ghost use Rattle.std.specs.Prelude.{◌≡◌};
 
 use crate::pieces::Pieces;
 use std::alloc::Global;
@@ -14,17 +14,14 @@ pub struct Pending {
 impl Pending {
     /// Returns no bytes.
     pub fn new(alloc: Global) -> Pending {
-        Pending {
-            bytes: Vec::new(alloc),
-        }
+        Pending::of(Vec::new(alloc))
     }
 
-    /// Returns no bytes, and keeps those that are written in the memory of these, which are dropped.
-    pub fn reusing(mut memory: Vec<u8>) -> Pending
-        ensures { result.bytes.items ≡ [] }
+    /// Returns these bytes. Those that are written come after them, in the same memory.
+    pub fn of(bytes: Vec<u8>) -> Pending
+        ensures { result.bytes ≡ bytes }
     {
-        memory.clear();
-        Pending { bytes: memory }
+        Pending { bytes }
     }
 
     /// Returns the bytes, of which none was taken.

@@ -43,11 +43,15 @@ impl Pieces {
         self.taken == self.bytes.len()
     }
 
-    /// Returns the bytes, those that were taken too.
-    pub fn into_bytes(self) -> Vec<u8>
-        ensures { result ≡ self.bytes }
+    /// Returns an empty vector in the memory of these bytes, which are dropped.
+    pub fn into_memory(self) -> Vec<u8>
+        ensures { result.items ≡ [] }
     {
-        let Pieces { bytes, taken: _ } = self;
+        let Pieces {
+            mut bytes,
+            taken: _,
+        } = self;
+        bytes.clear();
         bytes
     }
 

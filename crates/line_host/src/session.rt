@@ -113,8 +113,8 @@ impl Session {
     ///
     /// Returns `Done`, where the line goes on; `Suspended`; `Submitted`; `Ended`; `Interrupted`; or
     /// a fault, `NoMemory` or `Failed`: if the line has begun by then, it goes on at the next call;
-    /// if not, the line before goes on unchanged, if there was one. Returns `NotText`, where one of
-    /// these texts is not UTF-8, and nothing changes then.
+    /// if not, the line before goes on unchanged, if there was one, but may be drawn anew. Returns
+    /// `NotText`, where one of these texts is not UTF-8, and nothing changes then.
     pub fn begin(&mut self, prompt: &[u8], styled: &[u8], left: &[u8], right: &[u8]) -> Status
         ensures { BeginsLine answers_by prompt.now styled.now left.now right.now self.old self.new
             result }
@@ -152,7 +152,7 @@ impl Session {
     }
 
     /// Reads the end of all bytes. Returns what `feed` does, but for `Done`: a line that would go
-    /// on ends, as no more can arrive.
+    /// on ends, as no more can arrive. After `Suspended` it goes on at the next call.
     pub fn finish(&mut self) -> Status
         ensures { Finishes answers_by (finished self.old.editor.decoder) self.old self.new result }
     {
@@ -268,7 +268,7 @@ impl Session {
     {
         if self.output.is_empty() {
             let taken = mem::replace(&mut self.output, Pieces::new(self.alloc));
-            let pending = Pending::reusing(taken.into_bytes());
+            let pending = Pending::of(taken.into_memory());
             self.output = self.editor.exchange_out(pending).into_pieces();
         }
         self.output.take(buffer)
