@@ -1,14 +1,12 @@
 -- Among any newest entries stand at most so many more begins than ends as groups are open.
-use Rattle.std.proofs.Common.{min, ◌^◌, nat_le, ◌&&◌, length-append, replicate, max, ◌≡◌, ℕ, ◌+◌, ◌-◌, ◌<◌, ◌≤◌, zero, suc, Bool, true, false, cond, ◌==◌, List, [], ◌∷◌, ◌++◌, length, drop, filter, Option, Some, None, Result, Ok, Err, OnOk, OnErr, encode_utf8, take, unwrap_or, ◌⊎◌, inl, inr, refl, sym, ap, ap₂, ◌∙◌, subst, arith}
+use Rattle.std.proofs.Common.{min, ◌^◌, nat_le, ◌&&◌, length-append, replicate, max, ◌≡◌, ℕ, ◌+◌, ◌-◌, ◌<◌, ◌≤◌, zero, suc, Bool, true, false, cond, List, [], ◌∷◌, ◌++◌, length, drop, filter, Option, Some, None, Result, Ok, Err, OnOk, take, unwrap_or, ◌⊎◌, inl, inr, refl, sym, ap, ap₂, ◌∙◌, subst, arith}
 use Rattle.std.specs.Fn.{iterate}
 use Rattle.std.specs.List.{range_with_len, slice_get, slice_index_or, slice_set, count_by, list_all}
 use Rattle.std.proofs.Math.Seq.{drop-length, take-nil}
 use Rattle.std.proofs.lemmas.Bool.{leb-true}
 use Rattle.std.proofs.lemmas.List.{length-take}
 use Rattle.std.proofs.lemmas.List.Sums.{count_by-le-length, sum_by-append}
-use Rattle.line_buffer.specs.Character.{is_alphanumeric, is_one_alphanumeric}
-use Rattle.line_buffer.specs.Changes.{Changes, Entry, begun, no_changes, ended, closed, begins, ends, inserted, deleted, replaced, with_delete, with_insert, with_joined_delete, with_joined_insert, with_replace, with_typed}
-use Rattle.line_buffer.specs.Edit.{on_entries}
+use Rattle.line_buffer.specs.Changes.{Changes, Entry, begun, ended, closed, begins, ends, inserted, deleted, replaced}
 use Rattle.line_buffer.specs.Line.{Line}
 use Rattle.line_buffer.specs.Undo.{taken_back, GroupsFit, NoGroupOpen, UndoesStepByStep, after_undo, all_taken_back, is_begin, is_change, is_end, is_step, newest_steps, steps_len, without_steps}
 use Rattle.line_buffer.proofs.ChangeLemmas.{closed-singly, closed_singly, edited, entries_of-length, entries_of-push, unedited}

@@ -11,9 +11,8 @@ use line_keys::keys::{KeyCode, KeyEvent, Modifiers};
 use line_keys::raw_reader::RawReader;
 use std::alloc::Global;
 use std::collections::VecDeque;
-use std::io;
 use std::marker::Model;
-use std::mem;
+use std::{io, mem};
 
 /// Something that is read.
 #[derive(Debug, Drop)]

@@ -100,10 +100,7 @@ fn push_drawing<P: Prompt, H: Highlighter, R: RawReader>(
 {
     let (layout, highlighter) = (handed.layout, handed.highlighter);
     let (text, behind) = (handed.line.as_str(), handed.behind);
-    let (begin, end) = (
-        layout.prompt_size,
-        line_end(screen, text, behind, layout),
-    );
+    let (begin, end) = (layout.prompt_size, line_end(screen, text, behind, layout));
     push_prompt(
         bytes,
         alloc,

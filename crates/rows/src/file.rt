@@ -37,7 +37,6 @@ do COMMAND; ..       commands are executed, and calls of the editor's state made
 run, turn, next      what was typed is read by a run, by a turn, or by a command
 phrase NAME NAME ..  keys that are one phrase, which is read and not executed
 log CALL             the next call of the screen that is wanted
-The README of this program says more of each, and has the values.
 ";
 
 /// How the reading of a file ended: with so many cases, of which so many differ; at a bad line; or

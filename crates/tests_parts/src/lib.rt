@@ -1,5 +1,4 @@
-//! The tests of the line buffer, of the settings, and of what a line editor asks, as tables of
-//! cases.
+//! The tests of the settings, and of what a line editor asks, as tables of cases.
 #![tactic(auto)]
 
 #[cfg(test)]

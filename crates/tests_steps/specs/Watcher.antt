@@ -1,5 +1,5 @@
 -- The answers of the tests' handlers.
-use Rattle.std.specs.Prelude.{Bool, true, false, ◌==◌, ◌&&◌, if◌then◌else◌, length, List, [], Option, None, Some, unwrap_or, codes}
+use Rattle.std.specs.Prelude.{Bool, true, false, ◌==◌, ◌&&◌, if◌then◌else◌, length, [], Option, None, Some, unwrap_or, codes}
 use Rattle.line_config.specs.declared.config.EditMode.{EditMode}
 use Rattle.line_config.specs.declared.config.EditMode.TheVariants.{Emacs, Vi}
 use Rattle.line_keys.specs.Command.{Command, insert, noop}

@@ -40,8 +40,12 @@ invariant_of-self-then-goes_on_in_row g c =
     let shown = c.args.self.now.shown in
     let buf = c.args.buf.now in
     let screen : Screen = record {
-      position = shown.place; prompt = string_bytes shown.prompt; text = string_bytes shown.text; origin = shown.origin;
-      behind = option_map string_bytes shown.hint; known = true;
+      position = shown.place;
+      prompt = string_bytes shown.prompt;
+      text = string_bytes shown.text;
+      origin = shown.origin;
+      behind = option_map string_bytes shown.hint;
+      known = true;
     } in
     let follows = c.if-goes_on_in_row.ensures.follows refl in
     let room_left = c.if-goes_on_in_row.ensures.room refl in
@@ -74,8 +78,12 @@ pub returns-then-goes_on_in_row-clause-writes : goal.returns-then-goes_on_in_row
 returns-then-goes_on_in_row-clause-writes g c =
     let shown = c.args.self.now.shown in
     let screen : Screen = record {
-      position = shown.place; prompt = string_bytes shown.prompt; text = string_bytes shown.text; origin = shown.origin;
-      behind = option_map string_bytes shown.hint; known = true;
+      position = shown.place;
+      prompt = string_bytes shown.prompt;
+      text = string_bytes shown.text;
+      origin = shown.origin;
+      behind = option_map string_bytes shown.hint;
+      known = true;
     } in
     let follows = c.if-goes_on_in_row.ensures.follows refl in
     let room_left = c.if-goes_on_in_row.ensures.room refl in
