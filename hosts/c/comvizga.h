@@ -139,11 +139,12 @@ uint32_t comvizga_new(const comvizga_settings *settings, comvizga *handle);
  * before, and write what comvizga_output gives. */
 uint32_t comvizga_free(comvizga *handle);
 
-/* Begins a line behind a prompt and draws it: the terminal's cursor has to stand in the first column. A line that went
- * on before is dropped. Keys that were typed behind the end of the line before are read, so this may answer all that
- * comvizga_feed does, COMVIZGA_SUSPENDED too. Lengths are bytes. COMVIZGA_NOT_TEXT: the prompt is not UTF-8, and
- * nothing has changed. After COMVIZGA_NO_MEMORY the new line goes on, or the one before goes on unchanged, or there is
- * none where none went on: comvizga_cursor tells whether one goes on, and comvizga_line which. */
+/* Begins a line behind a prompt, and draws it from the first column of the cursor's row on; what stands there and below
+ * is cleared. A line that went on before is dropped. Keys that were typed behind the end of the line before are read,
+ * so this may answer all that comvizga_feed does, COMVIZGA_SUSPENDED too. Lengths are bytes. COMVIZGA_NOT_TEXT: the
+ * prompt is not UTF-8, and nothing has changed. After COMVIZGA_NO_MEMORY the new line goes on; or, if it could not
+ * begin, the one before goes on unchanged, if there was one, and may be drawn anew. comvizga_cursor tells whether a
+ * line goes on, and comvizga_line which. */
 uint32_t comvizga_begin(comvizga *handle, const char *prompt, size_t prompt_length);
 
 /* Begins a line as comvizga_begin does, with a prompt that is shown as styled, the same text with escape sequences for
@@ -160,8 +161,8 @@ uint32_t comvizga_begin_with(comvizga *handle, const char *prompt, size_t prompt
  *
  * COMVIZGA_SUSPENDED: the line goes on, and the cursor comes below it. Suspend the program; the terminal still marks
  * pasted texts then, where the settings say so: that is yours to turn off (ESC [?2004l) and, when the program goes on,
- * on (ESC [?2004h). Then a feed of no bytes draws the line where the cursor stands, in a first column, and reads what
- * was typed behind that key. */
+ * on (ESC [?2004h). Then a feed of no bytes draws the line, from the first column of the cursor's row on, and reads
+ * what was typed behind that key. */
 uint32_t comvizga_feed(comvizga *handle, const void *bytes, size_t length);
 
 /* Says that no byte came for a while, some 50 milliseconds: what has come of a key is the key. A lone Esc is the Esc
