@@ -99,17 +99,10 @@ fn print_run<W: Printed + Drop, O: Write>(
     let mut printed = 0;
     for turn in 1..u64::MAX {
         let columns = resize_before(turn, first, other);
+        printed = print_turn(&mut state, columns, printed, out)?;
         let items = &mut parsed.items;
-        if !take(
-            &mut state,
-            &mut input,
-            items,
-            &mut kills,
-            &config,
-            columns,
-            &mut printed,
-            out,
-        )? {
+        let turned = advance(&mut state, &mut input, items, &mut kills, &config);
+        if !matches!(turned, Ok(Turned::Proceeds)) {
             break;
         }
     }
@@ -132,25 +125,20 @@ fn resize_before(turn: u64, first: Unit, other: Unit) -> Option<Unit>
     Some(columns.max(1))
 }
 
-/// Prints what the last turn did, and what a resize to these columns does, if there is one; and
-/// takes the next turn. Returns whether the line goes on.
-fn take<'out, 'prompt, W: Printed, H: Helper, P: Prompt, S: History, O: Write>(
+/// Prints what the last turn did, and what a resize to these columns does, if there is one. Returns
+/// how many bytes have been printed.
+fn print_turn<'out, 'prompt, W: Printed, H: Helper, P: Prompt, S: History, O: Write>(
     state: &mut State<'out, 'prompt, W, H, P, S>,
-    input: &mut InputState<'_>,
-    items: &mut Script,
-    kills: &mut KillRing,
-    config: &Config,
     columns: Option<Unit>,
-    printed: &mut usize,
+    printed: usize,
     out: &mut O,
-) -> Result<bool>
+) -> Result<usize>
     requires { IfSome columns (λ columns. 0 < columns) }
 {
-    *printed = state.out().print(false, *printed, out)?;
-    if let Some(columns) = columns {
-        state.resized(columns, ROWS)?;
-        *printed = state.out().print(true, *printed, out)?;
-    }
-    let turned = advance(state, input, items, kills, config);
-    Ok(matches!(turned, Ok(Turned::Proceeds)))
+    let printed = state.out().print(false, printed, out)?;
+    let Some(columns) = columns else {
+        return Ok(printed);
+    };
+    state.resized(columns, ROWS)?;
+    state.out().print(true, printed, out)
 }
