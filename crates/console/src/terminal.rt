@@ -7,8 +7,8 @@ use crate::history_file::keep;
 use crate::watch::{BUFFER_SIZE, LineEditor, Watch};
 use line_config::Result;
 use line_editor::Bindings;
-use line_parts::FilenameCompleter;
-use line_session::editor::Fed;
+use line_parts::{FilenameCompleter, Helper, History};
+use line_session::editor::{Editor, Fed};
 use line_term::Size;
 use std::io::{Read, Write};
 use std::rt::Files;
@@ -81,10 +81,10 @@ fn answer<R: Files + AllocGlobal + Clone + Drop, W: Write, O: Write + Drop, F: W
 }
 
 /// Reads a line. A read of no bytes is a pause.
-fn read_line<R: Read, W: Write, O: Write + Drop>(
+fn read_line<R: Read, W: Write, O: Write + Drop, H: Helper + Drop, S: History + Drop>(
     input: &mut R,
     out: &mut W,
-    editor: &mut LineEditor<O>,
+    editor: &mut Editor<O, H, S>,
     bindings: &Bindings,
     watch: &mut Watch,
 ) -> Result<Fed> {

@@ -3,7 +3,7 @@
 use crate::helper::ConsoleHelper;
 use line_config::Result;
 use line_editor::Bindings;
-use line_parts::FileHistory;
+use line_parts::{FileHistory, Helper, History};
 use line_session::editor::Editor;
 use line_term::Size;
 use std::io::{Read, Write};
@@ -85,7 +85,10 @@ impl Watch {
 
     /// Gives the editor the size that the terminal reported after what was read, if it did and it
     /// is another one.
-    pub(crate) fn follow<O: Write + Drop>(&mut self, editor: &mut LineEditor<O>) -> Result<()> {
+    pub(crate) fn follow<O: Write + Drop, H: Helper + Drop, S: History + Drop>(
+        &mut self,
+        editor: &mut Editor<O, H, S>,
+    ) -> Result<()> {
         let Some(answer) = editor.take_size() else {
             self.pauses = 0;
             return Ok(());
@@ -115,10 +118,10 @@ impl Watch {
 
     /// Waits a moment for an answer that has not arrived yet, so that it is not left to whoever
     /// reads next.
-    pub(crate) fn settle<R: Read, O: Write + Drop>(
+    pub(crate) fn settle<R: Read, O: Write + Drop, H: Helper + Drop, S: History + Drop>(
         &mut self,
         input: &mut R,
-        editor: &mut LineEditor<O>,
+        editor: &mut Editor<O, H, S>,
         bindings: &Bindings,
     ) -> Result<()> {
         let mut buffer = [0; BUFFER_SIZE];
