@@ -2,6 +2,7 @@ pub mod Completing
 pub mod Filed
 pub mod Heard
 pub mod Kept
+pub mod Lines
 pub mod OnTerminal
 pub mod OneChange
 pub mod OneSearch

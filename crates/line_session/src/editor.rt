@@ -1,13 +1,12 @@
 //! An editor that reads lines from a terminal: what is kept between two lines, and between two
 //! pieces of one.
-ghost use Rattle.std.specs.Prelude.{◌≡◌, ◌<◌, ◌↔◌, true, false, [], length, None, Some, Ok, is_some, option_map, IfSome, IfOk, OnOk, OnErr, string_bytes};
-ghost use Rattle.std.specs.Io.KnownBytes.{IsAtEnd};
+ghost use Rattle.std.specs.Prelude.{◌≡◌, ◌<◌, ◌≤◌, ◌↔◌, true, false, [], length, None, Some, Ok, is_some, option_map, IfSome, IfOk, OnOk, OnErr, string_bytes};
 ghost use Rattle.line_config.specs.Error.{FaultsOnly, MemoryOnly, UnlessFault};
 ghost use Rattle.line_editor.specs.Binding.{bound_of};
 ghost use Rattle.line_parts.specs.History.{TellsTaken, added};
 ghost use Rattle.line_session.specs.Kept.{answers_of};
 ghost use Rattle.line_session.specs.OnTerminal.{ShowsBegun};
-ghost use Rattle.line_session.specs.Reading.{BindingsLookAtNoHint, HearsOnce, ReadsLine, readline_answer};
+ghost use Rattle.line_session.specs.Reading.{AfterFault, FailsToRead, HearsOnce, ReadsLine, most_at_once, readline_answer};
 ghost use Rattle.line_session.specs.Heard.{AddsItems, BeginsReading, Feeds, turn_of};
 ghost use Rattle.line_session.specs.Sitting.{BeginsOrStays, BegunLine, Came, CameBegun, LineEndsAs, Keeps, LosesNothing, StartsWith, StaysOrDraws, to_be_drawn, suspends, with_turn, written_so_far};
 ghost use Rattle.line_buffer.specs.KillRing.{empty_ring};
@@ -496,11 +495,16 @@ impl<O: Write + Drop, H: Helper + Drop, S: History + Drop> Editor<O, H, S> {
         bindings: &Bindings<C>,
     ) -> Result<String>
         ensures reads { let g = C.ConditionalEventHandler in
-            BindingsLookAtNoHint (bound_of g bindings.now) → UnlessFault result
+            UnlessFault result
             (ReadsLine (answers_of H.hint_at H.verdict_at H.lights H.Completer)
             (bound_of g bindings.now)
             pauses (R.remaining input.old) (R.remaining input.new)
             (P.raw_text prompt.now) [] [] self.old self.new result) }
+        ensures left { let g = C.ConditionalEventHandler in
+            AfterFault result
+            (FailsToRead (answers_of H.hint_at H.verdict_at H.lights H.Completer)
+            (bound_of g bindings.now) pauses (R.remaining input.old)
+            (P.raw_text prompt.now) [] [] self.old self.new) }
     {
         self.readline_with_initial(input, pauses, prompt, ("", ""), bindings)
     }
@@ -518,29 +522,38 @@ impl<O: Write + Drop, H: Helper + Drop, S: History + Drop> Editor<O, H, S> {
         bindings: &Bindings<C>,
     ) -> Result<String>
         ensures reads { let g = C.ConditionalEventHandler in
-            BindingsLookAtNoHint (bound_of g bindings.now) → UnlessFault result
+            UnlessFault result
             (ReadsLine (answers_of H.hint_at H.verdict_at H.lights H.Completer)
             (bound_of g bindings.now)
             pauses (R.remaining input.old) (R.remaining input.new)
             (P.raw_text prompt.now) initial.entry.0.now initial.entry.1.now
             self.old self.new result) }
+        ensures left { let g = C.ConditionalEventHandler in
+            AfterFault result
+            (FailsToRead (answers_of H.hint_at H.verdict_at H.lights H.Completer)
+            (bound_of g bindings.now) pauses (R.remaining input.old)
+            (P.raw_text prompt.now) initial.entry.0.now initial.entry.1.now self.old self.new) }
     {
         let mut buffer = [0; BUFFER_SIZE];
         let mut fed = self.begin_with(prompt, initial, bindings)?;
         let mut goes_on = true;
         for _ in 0..u64::MAX {
             if !self.awaits_more(&fed, goes_on) {
-                return self.answered(fed);
+                break;
             }
             (fed, goes_on) = self.read_on(input, goes_on, pauses, &mut buffer, bindings)?;
         }
-        Err(io::Error::from(io::ErrorKind::Other).into())
+        if self.awaits_more(&fed, goes_on) {
+            return Err(io::Error::from(io::ErrorKind::Other).into());
+        }
+        self.answered(fed)
     }
 
     /// Returns whether the line is to be read on: it goes on, and so does the input, or the program
     /// was asked to suspend itself.
     fn awaits_more(&self, fed: &Fed, goes_on: bool) -> bool
         ensures yes { result ≡ true → fed.now ≡ Fed.More }
+        ensures on { result ≡ true → suspends self.now ≡ false → goes_on ≡ true }
         ensures no { result ≡ false → fed.now ≡ Fed.More
             → (goes_on ≡ false) × (suspends self.now ≡ false) }
     {
@@ -556,8 +569,9 @@ impl<O: Write + Drop, H: Helper + Drop, S: History + Drop> Editor<O, H, S> {
     /// `Eof` if the line goes on or has ended, and `Interrupted`: no line goes on then. `Io` if the
     /// output fails: the line goes on, and is drawn at the next call.
     fn answered(&mut self, fed: Fed) -> Result<String>
-        ensures { UnlessFault result ((result ≡ readline_answer fed)
+        ensures told { UnlessFault result ((result ≡ readline_answer fed)
             × (self.new ≡ record self.old { line = None })) }
+        ensures left { AfterFault result ((fed ≡ Fed.More) × (self.new ≡ to_be_drawn self.old)) }
     {
         match fed {
             Fed::More => {
@@ -586,24 +600,28 @@ impl<O: Write + Drop, H: Helper + Drop, S: History + Drop> Editor<O, H, S> {
         buffer: &mut [u8],
         bindings: &Bindings<C>,
     ) -> Result<(Fed, bool)>
-        requires buffer { 0 < length buffer.old }
-        requires end { goes_on ≡ false → IsAtEnd (R.remaining input.old) }
+        requires some { 0 < length buffer.old }
+        requires most { length buffer.old ≤ most_at_once }
+        requires on { suspends self.old ≡ false → goes_on ≡ true }
         ensures hears { (begun : BegunLine) → self.old.line ≡ Some begun →
             let g = C.ConditionalEventHandler in
             IfOk result (λ told. HearsOnce (answers_of H.hint_at H.verdict_at H.lights H.Completer)
             (bound_of g bindings.now) pauses (R.remaining input.old) (R.remaining input.new)
-            self.old begun self.new told.0) }
-        ensures end { IfOk result (λ told. told.1 ≡ false → IsAtEnd (R.remaining input.new)) }
+            goes_on told.1 self.old begun self.new told.0) }
+        ensures left { OnErr result (LosesNothing self.old self.new) }
         ensures faults { FaultsOnly result }
     {
         if self.is_suspended() {
             return Ok((self.feed(&[], bindings)?, goes_on));
         }
-        match input.read(buffer)? {
-            0 if pauses => Ok((self.flush(bindings)?, true)),
-            0 => Ok((self.finish(bindings)?, false)),
-            count => Ok((self.feed(&buffer[..count], bindings)?, true)),
+        let count = input.read(buffer)?;
+        if count > 0 {
+            return Ok((self.feed(&buffer[..count], bindings)?, true));
         }
+        if pauses {
+            return Ok((self.flush(bindings)?, true));
+        }
+        Ok((self.finish(bindings)?, false))
     }
 
     /// Begins a line after the prompt, with these texts before and after the cursor. It is to be

@@ -28,7 +28,8 @@ pub fn paste_comes_whole()
     ensures { PasteComesWhole }
 {}
 
-/// Each row of the tables of sequences stands for its key, with each of its modifiers.
+/// The tables of sequences have the rows that are written in the law, and each row stands for its
+/// key, with each of its modifiers.
 pub fn rows_are_keys()
     ensures { RowsAreKeys }
 {}

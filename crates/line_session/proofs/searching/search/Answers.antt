@@ -1,4 +1,4 @@
-use Rattle.std.proofs.Common.{false, refl, ◌-◌}
+use Rattle.std.proofs.Common.{refl}
 use Rattle.line_session.proofs.SearchingLemmas.{begins_so}
 use Rattle.line_session.proofs.searching.search.Goals as goal
 
