@@ -1,10 +1,13 @@
 //! What comes of bytes that are typed.
 
 use crate::parties::NOBODY;
-use crate::sessions::{ADD, ADD_VI, COLORLESS, Case, SEARCH, bindings, comes_true, new_session};
+use crate::sessions::{
+    ADD, ADD_VI, COLORLESS, Case, SEARCH, SEARCH_VI, bindings, comes_true, done, new_session,
+};
 use crate::terminal::Counted;
 use crate::{completions, holds, searches};
 use line_config::ReadlineError;
+use std::io::{self, Read};
 use tests_parties::fault::GONE;
 
 /// Asks a terminal to show what follows all at once.
@@ -120,34 +123,123 @@ fn gives_the_line_in_whatever_pieces(rt: HostRuntime) {
 /// A prompt in bold type.
 const STYLED: &str = "\x1b[1m> ";
 
-/// What each line comes to that is read of an input: `!` where the output fails, its text, or
-/// nothing where the person interrupts. Suspend stops none of them.
-const LINES: &[&str] = &["!", "abc", "de", "hij", ""];
+/// An input that gives a piece each time that it is read: `…` stands for no bytes, and `!` for a
+/// read that fails. It counts its reads.
+#[derive(Drop)]
+struct Pieces {
+    pieces: &'static [&'static str],
+    reads: usize,
+}
 
-/// They are read after a plain prompt where no write fails, and after a styled one where the first
-/// write fails and no colors are shown.
+impl Read for Pieces {
+    fn read(&mut self, buf: &mut [u8]) -> io::Result<usize> {
+        let piece = self.pieces.get(self.reads).copied();
+        self.reads = self.reads.saturating_add(1);
+        match piece {
+            None | Some("…") => Ok(0),
+            Some("!") => Err(GONE.cause()),
+            Some(piece) => {
+                let mut bytes = piece.as_bytes();
+                bytes.read(buf)
+            }
+        }
+    }
+}
+
+/// What is tried, the styled prompt, which write fails, whether no bytes are a pause, what the
+/// input gives, how often it is read, and what each line comes to: `!` where a read or a write
+/// fails, its text, or `×` where the person interrupts.
+type Row = (
+    &'static str,
+    &'static str,
+    u64,
+    bool,
+    &'static [&'static str],
+    usize,
+    &'static [&'static str],
+);
+
+/// What two runs below give.
+const TYPED: &[&str] = &["abc\rde\x02\rh\x1ai\x1aj\rf\x03g"];
+
+const READ: &[Row] = &[
+    // Suspend stops no line; at its end the input is read once
+    (SEARCH, "> ", 0, false, TYPED, 2, &["abc", "de", "hij", "×"]),
+    // no colors are shown, and the first write fails
+    (
+        COLORLESS,
+        STYLED,
+        1,
+        false,
+        TYPED,
+        2,
+        &["!", "abc", "de", "hij", "×"],
+    ),
+    // a pause settles a lone Esc, and ends nothing
+    (
+        SEARCH_VI,
+        "> ",
+        0,
+        true,
+        &["ab\x1b", "…", "0x", "…", "\r", "…", "c\r\x04"],
+        7,
+        &["b", "c"],
+    ),
+    (
+        SEARCH,
+        "> ",
+        0,
+        true,
+        &["…", "a", "…", "…", "b\x1a", "c\r", "\x04"],
+        7,
+        &["abc"],
+    ),
+    // nothing is read behind the end of a line
+    (
+        SEARCH,
+        "> ",
+        0,
+        true,
+        &["a\r", "b\r", "\x04"],
+        3,
+        &["a", "b"],
+    ),
+    // a read that fails ends a line, and the next one begins
+    (
+        SEARCH,
+        "> ",
+        0,
+        true,
+        &["ab", "!", "…", "c\r", "\x04"],
+        5,
+        &["!", "c"],
+    ),
+    (SEARCH, "> ", 0, false, &["ab", "!", "c\r"], 4, &["!", "c"]),
+];
+
 #[test]
 fn reads_lines_of_an_input(rt: HostRuntime) {
     let bindings = bindings(rt.alloc()).expect(&rt, "bindings");
-    for (how, styled, failing) in [(SEARCH, "> ", 0), (COLORLESS, STYLED, 1)] {
-        let output = ("output", failing);
+    for (how, styled, failing, pauses, pieces, reads, wanted) in READ {
+        let output = ("output", *failing);
         let mut session = new_session(rt.alloc(), how, "", output).expect(&rt, "a session");
-        let mut input: &[u8] = b"abc\rde\x02\rh\x1ai\x1aj\rf\x03g";
-        let mut lines = usize::from(failing == 0);
-        for read in session.iter(&mut input, false, &("> ", styled), &bindings) {
-            let is_so = match (LINES.get(lines), read) {
-                (Some(line), Ok(read)) => !line.is_empty() && *line == read.as_str(),
-                (Some(line), Err(ReadlineError::Interrupted)) => line.is_empty(),
+        let mut input = Pieces { pieces, reads: 0 };
+        let mut lines: usize = 0;
+        for read in session.iter(&mut input, *pauses, &("> ", *styled), &bindings) {
+            let is_so = match (wanted.get(lines), read) {
+                (Some(line), Ok(read)) => *line == read.as_str(),
+                (Some(line), Err(ReadlineError::Interrupted)) => *line == "×",
                 (Some(line), Err(ReadlineError::Io(_))) => *line == "!",
                 _ => false,
             };
             holds(&rt, is_so, styled, lines);
             lines = lines.saturating_add(1);
         }
-        let has_ended = lines == LINES.len() && session.line().is_none();
+        let has_ended = lines == wanted.len() && session.line().is_none();
         let written = session.out().written();
         let is_plain = written.contains("> ") && !written.contains(STYLED);
         holds(&rt, has_ended && is_plain, styled, lines);
+        holds(&rt, input.reads == *reads, styled, input.reads);
     }
 }
 
@@ -162,8 +254,8 @@ fn draws_anew_on_another_output(rt: HostRuntime) {
     for (prompt, line) in PROMPTS {
         let mut session = new_session(rt.alloc(), SEARCH, "", NOBODY).expect(&rt, "a session");
         let has_begun = session.begin(&("> ", *prompt), &bindings).is_ok();
-        for (keys, shown) in [("ab", *prompt), ("c", "c"), ("", *line)] {
-            let is_fed = has_begun && session.feed(keys.as_bytes(), &bindings).is_ok();
+        for (keys, shown) in [("ab", *prompt), ("c", "c"), ("…", *line)] {
+            let is_fed = has_begun && done(&mut session, keys, 9, &bindings).is_ok();
             let written = session.out().written();
             let has_prompt = written.contains(*prompt);
             let is_drawn = is_fed && written.contains(shown) && has_prompt == (keys != "c");

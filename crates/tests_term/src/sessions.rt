@@ -9,7 +9,7 @@ use line_editor::{Bindings, Event, EventHandler};
 use line_keys::cmd::Cmd;
 use line_keys::keys::KeyEvent;
 use line_parts::{History, Parts};
-use line_session::editor::{Editor, Fed};
+use line_session::editor::{Editor, Fed, Heard};
 use std::alloc::Global;
 use std::process::Abort;
 use tests_parties::fault::GONE;
@@ -178,15 +178,16 @@ pub(crate) fn done(
         session.resize(columns.max(1), 5)?;
         return Ok(Fed::More);
     }
-    if step == PAUSE {
-        return session.flush(bindings);
-    }
-    if step == END {
-        return session.finish(bindings);
-    }
+    let is_typed = step != PAUSE && step != END;
+    let piece = if is_typed { piece.max(1) } else { usize::MAX };
     let mut fed = Fed::More;
-    for bytes in step.as_bytes().chunks(piece.max(1)) {
-        fed = session.feed(bytes, bindings)?;
+    for bytes in step.as_bytes().chunks(piece) {
+        let heard = match step {
+            PAUSE => Heard::Pause,
+            END => Heard::End,
+            _ => Heard::Bytes(bytes),
+        };
+        fed = session.hear(heard, bindings)?;
     }
     Ok(fed)
 }
