@@ -242,16 +242,18 @@ fn looks_at_rest(
 fn looks_at_line(state: &Editor<'_, '_>, outcome: &'static str, out: &mut Vec<u8>) -> Result<()> {
     let line = state.line();
     let (before, behind) = line.split_at_checked(state.pos()).unwrap_or(("?", "?"));
-    for (name, text) in [
-        ("outcome ", outcome),
-        ("\nline ", line),
-        ("\nshows ", before),
-        ("^", behind),
-    ] {
-        out.write_all(name.as_bytes())?;
-        write_escaped(text, out)?;
-    }
+    write!(out, "outcome {outcome}\nline ")?;
+    write_escaped(line, out)?;
+    out.write_all(b"\nshows ")?;
+    write_escaped(before, out)?;
+    out.write_all(b"^")?;
+    write_escaped(behind, out)?;
     out.write_all(b"\n")?;
+    all_alike(line, out)
+}
+
+/// Writes down the character of a line that has one alone, however often.
+fn all_alike(line: &str, out: &mut Vec<u8>) -> Result<()> {
     if let Some(first) = line.chars().next()
         && line.trim_start_matches(first).is_empty()
     {
@@ -265,23 +267,15 @@ fn looks_at_line(state: &Editor<'_, '_>, outcome: &'static str, out: &mut Vec<u8
 fn looks_at_layout(state: &Editor<'_, '_>, out: &mut Vec<u8>) -> Result<()> {
     let (pos, len, place) = (state.pos(), state.line().len(), state.place());
     let redraws = state.out().redraws();
+    writeln!(
+        out,
+        "cursor {pos}\nlen {len}\nplace {place}\nredraws {redraws}"
+    )?;
     let layout = state.layout();
     let (at, end, prompt) = (layout.cursor, layout.end, layout.prompt_size);
-    for (name, number) in [
-        ("cursor ", pos as u64),
-        ("\nlen ", len as u64),
-        ("\nplace ", place as u64),
-        ("\nredraws ", redraws),
-        ("\nat ", u64::from(at.row)),
-        (" ", u64::from(at.col)),
-        ("\nend ", u64::from(end.row)),
-        (" ", u64::from(end.col)),
-        ("\nprompt ", u64::from(prompt.row)),
-        (" ", u64::from(prompt.col)),
-    ] {
-        write!(out, "{name}{number}")?;
-    }
-    writeln!(out, " {:?}", layout.grapheme_cluster_mode)?;
+    writeln!(out, "at {} {}\nend {} {}", at.row, at.col, end.row, end.col)?;
+    let mode = layout.grapheme_cluster_mode;
+    writeln!(out, "prompt {} {} {mode:?}", prompt.row, prompt.col)?;
     Ok(())
 }
 
@@ -289,25 +283,17 @@ fn looks_at_layout(state: &Editor<'_, '_>, out: &mut Vec<u8>) -> Result<()> {
 /// the end of the line and of what is drawn, whether a text trails the line, and the hint.
 fn looks_at_hint(state: &Editor<'_, '_>, out: &mut Vec<u8>) -> Result<()> {
     let (is_lit, is_default) = (state.highlighter().is_some(), state.is_default_prompt());
-    let (has_hint, is_at_end) = (state.has_hint(), state.is_cursor_at_end());
-    let layout = state.layout();
-    let trails = layout.has_info;
-    let behind = if layout.cursor == layout.end {
-        "\nat the end of what is drawn"
-    } else {
-        ""
-    };
-    for (name, is_so) in [
-        ("highlighter", is_lit),
-        ("\nown prompt", is_default),
-        ("\nbehind the line", is_at_end),
-        ("\ntrails", trails),
-        ("\nhint", has_hint),
-    ] {
-        out.extend_from_slice(name.as_bytes())?;
-        out.extend_from_slice(if is_so { b" true" } else { b" false" })?;
+    writeln!(out, "highlighter {is_lit}\nown prompt {is_default}")?;
+    let (layout, is_at_end) = (state.layout(), state.is_cursor_at_end());
+    writeln!(
+        out,
+        "behind the line {is_at_end}\ntrails {}",
+        layout.has_info
+    )?;
+    writeln!(out, "hint {} {:?}", state.has_hint(), state.hint_text())?;
+    if layout.cursor == layout.end {
+        out.write_all(b"at the end of what is drawn\n")?;
     }
-    writeln!(out, " {:?}{behind}", state.hint_text())?;
     Ok(())
 }
 
