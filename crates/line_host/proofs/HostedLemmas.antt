@@ -13,6 +13,7 @@ use Rattle.line_session.specs.declared.editor.Fed.{Fed}
 use Rattle.line_session.specs.declared.editor.Fed.TheVariants as feds
 use Rattle.line_session.specs.declared.editor.Heard.{Heard}
 use Rattle.line_host.specs.Hosted.{BindsKeys, CameTo, Hosted, TellsStatus, with_editor}
+use Rattle.line_host.specs.Names.{command_named}
 use Rattle.line_host.specs.Status.{IsDoneOrFault, ReportsFault, MayBind}
 use Rattle.line_host.specs.declared.status.Status.{Status}
 use Rattle.line_host.specs.declared.status.Status.TheVariants as status
@@ -99,13 +100,14 @@ done_or_fault (Err e) _ is fault = absurd fault
 module _ {H : Type 0} where
   -- keys that were bound
   pub binds_done : (keys command : List ℕ) (before old : Hosted H) (left : BoundCommands) (came : Status) (chord : Chord) (bound_to : Command)
-      → IsUtf8 keys → IsUtf8 command → came ≡ status.Done → before ≡ old → Rebinds (bound before.commands) (bound left) chord (answers (Some bound_to))
+      → IsUtf8 keys → IsUtf8 command → came ≡ status.Done → before ≡ old → command_named command ≡ Some bound_to → Rebinds (bound before.commands) (bound left) chord (answers (Some bound_to))
       → BindsKeys keys command old (record before { commands = left }) came
-  binds_done keys command before old left came chord bound_to one other done is rebinds = record {
+  binds_done keys command before old left came chord bound_to one other done is named rebinds = record {
     stays = ap (λ (s : Hosted H). record s { commands = left }) is;
     no_text = λ wrong. absurd (wrong (one, other));
     answers = λ _ _. subst MayBind (sym done) tt;
-    binds = λ _. ((chord, bound_to), subst (λ (s : Hosted H). Rebinds (bound s.commands) (bound left) chord (answers (Some bound_to))) is rebinds);
+    binds = λ _. ((chord, bound_to), named, subst (λ (s : Hosted H). Rebinds (bound s.commands) (bound left) chord (answers (Some bound_to))) is rebinds);
+    no_command = λ none. cc;
     kept = λ failed. absurd (failed done);
   }
 
@@ -119,5 +121,6 @@ module _ {H : Type 0} where
         no_text = λ wrong. absurd (wrong (one, other));
         answers = λ _ _. subst MayBind (sym wants) tt;
         binds = λ done. cc;
+        no_command = λ none. cc;
         kept = λ _. same;
       }

@@ -1,5 +1,5 @@
 -- What a host's session holds, and what its calls lead to.
-use Rattle.std.specs.Prelude.{◌≡◌, ◌≢◌, ◌<◌, ◌⊎◌, ℕ, Bool, MatchOption, OnErr, OnOk, is_some, true, false, if◌then◌else◌, List, Option, Some, None, Result, Ok, Err, String, string_bytes}
+use Rattle.std.specs.Prelude.{◌≡◌, ◌≢◌, ◌<◌, ◌⊎◌, ℕ, Bool, MatchOption, IfErr, OnOk, is_some, true, false, if◌then◌else◌, List, Option, Some, None, Result, Ok, Err, String, string_bytes}
 use Rattle.std.specs.Option.{option_or}
 use Rattle.std.specs.declared.alloc.Global.{Global}
 use Rattle.line_config.specs.declared.error.ReadlineError.{ReadlineError}
@@ -18,7 +18,8 @@ use Rattle.line_session.specs.Sitting.{BeginsOrStays, BegunLine, Came, CameBegun
 use Rattle.line_session.specs.declared.editor.Fed.{Fed}
 use Rattle.line_session.specs.declared.editor.Fed.TheVariants as fed
 use Rattle.line_host.specs.Bound.{BoundCommands, bound}
-use Rattle.line_host.specs.Status.{IsDoneOrFault, ReportsFault, MayBind}
+use Rattle.line_host.specs.Names.{command_named}
+use Rattle.line_host.specs.Status.{IsDoneOrFault, ReportsFault, MayBind, loading_status_of}
 use Rattle.line_host.specs.declared.status.Status.{Status}
 use Rattle.line_host.specs.declared.status.Status.TheVariants as status
 
@@ -78,7 +79,7 @@ module _ {H : Type 0} where
     pub loaded : Result (Option Bool) ReadlineError
     pub loads : Files (LoadsText loaded (Some text)) old.editor new.editor
     pub done : OnOk loaded (came ≡ status.Done)
-    pub failed : OnErr loaded (ReportsFault came ⊎ (came ≡ status.NotText))
+    pub failed : IfErr loaded (λ error. came ≡ loading_status_of error)
 
   -- the same, unless a line goes on
   pub record LoadsHistory (text : List ℕ) (old new : Hosted H) (came : Status) : Type 0 where
@@ -100,12 +101,14 @@ module _ {H : Type 0} where
   TellsCursor session before reported came = MatchOption session.editor.line ((came ≡ status.NoLine) × (reported ≡ before))
       (λ begun. (came ≡ status.Done) × (reported ≡ begun.kept.draft.line.cursor))
 
-  -- some keys were bound to some command, in place of what they were bound to, if these are texts; or nothing was
+  -- some keys were bound to the command of this name, in place of what they were bound to, if these are texts; or nothing was
   pub record BindsKeys (keys command : List ℕ) (old new : Hosted H) (came : Status) : Type 0 where
     pub stays : new ≡ record old { commands = new.commands }
     pub no_text : ¬ (IsUtf8 keys × IsUtf8 command) → came ≡ status.NotText
     pub answers : IsUtf8 keys → IsUtf8 command → MayBind came
-    pub binds : came ≡ status.Done → (pair : Chord × Command) × Rebinds (bound old.commands) (bound new.commands) pair.0 (binding.answers (Some pair.1))
+    pub binds : came ≡ status.Done → (pair : Chord × Command) × (command_named command ≡ Some pair.1)
+        × Rebinds (bound old.commands) (bound new.commands) pair.0 (binding.answers (Some pair.1))
+    pub no_command : came ≡ status.NoCommand → command_named command ≡ None
     pub kept : came ≢ status.Done → new ≡ old
 
   -- what becomes of a line is reported by a status, and the text of one that was submitted is kept

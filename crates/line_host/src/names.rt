@@ -1,5 +1,8 @@
 //! Keys and commands by their names.
+ghost use Rattle.std.specs.Prelude.{◌≡◌, option_map};
 ghost use Rattle.line_config.specs.Error.{MemoryOnly};
+ghost use Rattle.line_keys.specs.Command.{command_of};
+ghost use Rattle.line_host.specs.Names.{command_named, kills, moves, of_history, of_name, others};
 
 use line_buffer::{At, Movement, Word};
 use line_config::Result;
@@ -33,7 +36,9 @@ pub fn event_named(alloc: Global, names: &str) -> Result<Option<Event>>
 }
 
 /// Returns the command of a name, as readline calls it.
-pub fn command_named(name: &str) -> Option<Cmd> {
+pub fn command_named(name: &str) -> Option<Cmd>
+    ensures { option_map command_of result ≡ command_named name.now }
+{
     if let Some(movement) = movement_named(name) {
         return Some(Cmd::Move(movement));
     }
@@ -47,7 +52,9 @@ pub fn command_named(name: &str) -> Option<Cmd> {
 }
 
 /// Returns the movement of a command that moves the cursor.
-fn movement_named(name: &str) -> Option<Movement> {
+fn movement_named(name: &str) -> Option<Movement>
+    ensures { result ≡ of_name moves name.now }
+{
     Some(match name {
         "beginning-of-line" => Movement::BeginningOfLine,
         "end-of-line" => Movement::EndOfLine,
@@ -62,7 +69,9 @@ fn movement_named(name: &str) -> Option<Movement> {
 }
 
 /// Returns the movement whose text a command kills.
-fn killed_by(name: &str) -> Option<Movement> {
+fn killed_by(name: &str) -> Option<Movement>
+    ensures { result ≡ of_name kills name.now }
+{
     Some(match name {
         "kill-line" => Movement::EndOfLine,
         "backward-kill-line" | "unix-line-discard" => Movement::BeginningOfLine,
@@ -77,7 +86,9 @@ fn killed_by(name: &str) -> Option<Movement> {
 }
 
 /// Returns the command of this name on lines of the history.
-fn history_command(name: &str) -> Option<Cmd> {
+fn history_command(name: &str) -> Option<Cmd>
+    ensures { option_map command_of result ≡ of_name of_history name.now }
+{
     Some(match name {
         "previous-history" => Cmd::PreviousHistory,
         "next-history" => Cmd::NextHistory,
@@ -94,7 +105,9 @@ fn history_command(name: &str) -> Option<Cmd> {
 }
 
 /// Returns another command of this name.
-fn other_command(name: &str) -> Option<Cmd> {
+fn other_command(name: &str) -> Option<Cmd>
+    ensures { option_map command_of result ≡ of_name others name.now }
+{
     Some(match name {
         "abort" => Cmd::Abort,
         "accept-line" => Cmd::AcceptOrInsertLine {

@@ -1,7 +1,7 @@
 //! How a call of a session ended.
 ghost use Rattle.std.specs.Prelude.{◌≡◌, true, OnErr, OnOk};
 ghost use Rattle.line_config.specs.Error.{FaultsOnly, is_fault, is_memory};
-ghost use Rattle.line_host.specs.Status.{ReportsFault, code_of};
+ghost use Rattle.line_host.specs.Status.{ReportsFault, code_of, status_of};
 
 use line_config::{ReadlineError, Result};
 use std::io::ErrorKind;
@@ -65,6 +65,7 @@ impl Status {
 
     /// Returns the status of an error: a stream that wants memory is a want of memory.
     pub(crate) fn of_error(error: ReadlineError) -> Status
+        ensures status { result ≡ status_of error }
         ensures fault { is_fault error ≡ true → ReportsFault result }
         ensures memory { is_memory error ≡ true → result ≡ Status.NoMemory }
     {
