@@ -15,7 +15,7 @@ abbrev pub line_given : Result (String Global) ReadlineError → Option (Result 
 line_given (Err errors.Eof) = None
 line_given answer = Some answer
 
--- how many lines may be read behind one of which this is given
+-- how many lines may still be read once this was given
 abbrev pub lines_behind : Option (Result (String Global) ReadlineError) → ℕ → ℕ
 lines_behind None count = 0
 lines_behind (Some answer) count = count - 1
@@ -28,7 +28,7 @@ module _ {H : Type 0} (answers : H → List (List ℕ) → Environment) (bound :
     pub reads : UnlessFault answer (ReadsLine answers bound pauses input input' prompt [] [] old new answer)
     pub left_so : AfterFault answer (FailsToRead answers bound pauses input prompt [] [] old new)
 
-  -- what is given next, where this many lines may be read: of a line that is read; or nothing, where the input has ended, and all stays
+  -- what is given next, where this many lines may still be read: what is answered of one; or nothing, where it is none: editor and input stay
   abbrev pub GivesNext : ℕ → ℕ → Option (Result (String Global) ReadlineError) → Type 0
   GivesNext count left given =
-      MatchBool (count == 0) ((given ≡ None) × (left ≡ 0) × (new ≡ old)) (GivesLine given × (left ≡ lines_behind given count))
+      MatchBool (count == 0) ((given ≡ None) × (left ≡ 0) × (new ≡ old) × (input' ≡ input)) (GivesLine given × (left ≡ lines_behind given count))

@@ -24,9 +24,9 @@ use Rattle.line_session.specs.declared.editor.Fed.TheVariants as fed
 abbrev pub most_at_once : ℕ
 most_at_once = 1024
 
--- what was read at once of an input, where the bytes before have left this: some bytes; none, as the input pauses, or as it has ended; and
--- nothing is read while the program is suspended. This is what the input had left and what it has left, where that is known, whether it
--- went on and goes on, and what was read leads to
+-- one step of reading: some bytes; none, as the input pauses, or as it has ended, where a known input has none left; and while the program
+-- is suspended nothing is read. It is told what the bytes before have left and whether the program is suspended, and tells what the input
+-- had and has left, where that is known, whether it went on and goes on, and what the bytes lead to
 pub data ReadsOnce (pauses : Bool) (before : decoding.DecoderState) : Bool → Option (List ℕ) → Option (List ℕ) → Bool → Bool → decoding.DecoderTurn → Type 0 where
   bytes : {at next : Option (List ℕ)} (piece : List ℕ) → 0 < length piece → length piece ≤ most_at_once → Consumes at next piece
       → ReadsOnce pauses before false at next true true (decoding.read before piece)
@@ -62,8 +62,8 @@ module _ {H : Type 0} where
     pub draws : left.draws ≡ true → drawn ≡ true
     pub column : left.kept.drawing.prompt_end.col ≡ by.ruler.prompt_column
 
-  -- what became of a line over all these items: it goes on; or it has ended, where no binding looks at the hint as it does where they are
-  -- all there at once
+  -- what became of a line over all these items: it goes on; or it has ended. Then, if no binding looks at the hint, it has ended as it does
+  -- with all of them at once, and else nothing is said
   abbrev pub CameOver : Rules → Standing → List Item → Sitting H → Sitting H → Fed → Type 0
   CameOver by start items old now fed.More = GoesOnOver by start items now × (now.lines ≡ old.lines)
   CameOver by start items old now ended = BindingsLookAtNoHint by.keymap.bound → CameFrom by true (with_more items start) old now ended
@@ -114,6 +114,6 @@ module _ {H : Type 0} where
       pub came : Came answers bound (with_turn turn old) begun new told
       pub keeps : Keeps answers (with_turn turn old) new
 
-    -- reading a line failed: it could not begin, and the line before stays; or it had gone on over all that was read, and goes on
+    -- reading a line failed, as where one cannot begin; or it had gone on until then, and nothing is lost
     abbrev pub FailsToRead : Option (List ℕ) → List ℕ → List ℕ → List ℕ → Sitting H → Sitting H → Type 0
     FailsToRead input prompt left right old new = BeginsOrStays answers prompt left right old new ⊎ FailsLater input prompt left right old new

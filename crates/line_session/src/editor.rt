@@ -479,14 +479,16 @@ impl<O: Write + Drop, H: Helper + Drop, S: History + Drop> Editor<O, H, S> {
         drawn
     }
 
-    /// Reads a line after the prompt from `input`. A read of no bytes is a pause where `pauses`
-    /// says so, as on a terminal that waits only for a while, and else the end of the input.
+    /// Reads a line after the prompt from `input`, at most 1,024 bytes between two turns, and only
+    /// while the line goes on. A read of no bytes is a pause where `pauses` says so, as on a
+    /// terminal that waits only for a while, and else the end of the input, which is read once.
     ///
     /// # Errors
     /// `Eof` if the input ends, or by a command on an empty line; `Interrupted` if the person
     /// interrupts: no line goes on then. `Io` if the input, the output, a handler, the helper or
-    /// the history fails, and `Memory` if memory runs out: `line` and `pos` then return the line,
-    /// or, if it could not begin, the one before. To go on, hand it to `readline_with_initial`.
+    /// the history fails, or after 2^64 - 1 reads, and `Memory` if memory runs out: `line` and
+    /// `pos` then return the line, or, if it could not begin, the one before. To go on, hand it to
+    /// `readline_with_initial`.
     pub fn readline<R: Read, P: Prompt, C: ConditionalEventHandler>(
         &mut self,
         input: &mut R,

@@ -1,4 +1,5 @@
 //! The lines of an input, one after another.
+ghost use Rattle.std.specs.Prelude.{◌≡◌};
 ghost use Rattle.std.specs.Iterator.{at_most};
 ghost use Rattle.line_editor.specs.Binding.{bound_of};
 ghost use Rattle.line_session.specs.Kept.{answers_of};
@@ -84,13 +85,13 @@ impl<
     ghost remaining = { λ s. at_most s.turns };
 
     ghost next_gives = { λ old given new. let g = C.ConditionalEventHandler in
-        GivesNext (answers_of H.hint_at H.verdict_at H.lights H.Completer)
+        (new.pauses ≡ old.pauses) × GivesNext (answers_of H.hint_at H.verdict_at H.lights H.Completer)
         (bound_of g old.bindings.now) old.pauses
         (R.remaining old.input.now) (R.remaining new.input.now) (P.raw_text old.prompt.now)
         old.editor.now new.editor.now old.turns new.turns given };
 
-    /// Returns the next line, or why there is none, as `readline` answers; None where the input or
-    /// the line has ended, and from then on.
+    /// Returns the next line, or why there is none, as `readline` answers; None where that is `Eof`,
+    /// and from then on.
     fn next(&mut self) -> Option<Result<String>> {
         if self.turns == 0 {
             return None;
