@@ -2,6 +2,7 @@
 use Rattle.std.specs.Prelude.{◌≡◌, ◌≢◌, ◌<◌, ◌⊎◌, ℕ, Bool, MatchOption, IfErr, OnOk, is_some, true, false, if◌then◌else◌, List, Option, Some, None, Result, Ok, Err, String, string_bytes}
 use Rattle.std.specs.Option.{option_or}
 use Rattle.std.specs.declared.alloc.Global.{Global}
+use Rattle.line_config.specs.Error.{FaultsOnly}
 use Rattle.line_config.specs.declared.error.ReadlineError.{ReadlineError}
 use Rattle.std.specs.Str.{IsUtf8}
 use Rattle.line_parts.specs.Environment.{Environment}
@@ -80,6 +81,7 @@ module _ {H : Type 0} where
     pub loads : Files (LoadsText loaded (Some text)) old.editor new.editor
     pub done : OnOk loaded (came ≡ status.Done)
     pub failed : IfErr loaded (λ error. came ≡ loading_status_of error)
+    pub faults : FaultsOnly loaded
 
   -- the same, unless a line goes on
   pub record LoadsHistory (text : List ℕ) (old new : Hosted H) (came : Status) : Type 0 where

@@ -1,5 +1,5 @@
 //! How a call of a session ended.
-ghost use Rattle.std.specs.Prelude.{◌≡◌, true, OnErr, OnOk};
+ghost use Rattle.std.specs.Prelude.{◌≡◌, true, IfErr, OnErr, OnOk};
 ghost use Rattle.line_config.specs.Error.{FaultsOnly, is_fault, is_memory};
 ghost use Rattle.line_host.specs.Status.{ReportsFault, code_of, status_of};
 
@@ -55,6 +55,7 @@ impl Status {
     pub(crate) fn of<T: Drop>(done: Result<T>) -> Status
         requires { FaultsOnly done }
         ensures done { OnOk done (result ≡ Status.Done) }
+        ensures status { IfErr done (λ error. result ≡ status_of error) }
         ensures fault { OnErr done (ReportsFault result) }
     {
         match done {
