@@ -1,4 +1,5 @@
-//! The tests of the settings, and of what a line editor asks, as tables of cases.
+//! The tests of the line buffer, of the settings, and of what a line editor asks, as tables of
+//! cases.
 #![tactic(auto)]
 
 #[cfg(test)]
@@ -7,9 +8,16 @@ use std::process::Abort;
 #[cfg(test)]
 mod brackets;
 #[cfg(test)]
+mod buffer;
+pub mod caller;
+#[cfg(test)]
 mod completion;
 #[cfg(test)]
+mod examples;
+#[cfg(test)]
 mod filename;
+#[cfg(test)]
+mod history;
 #[cfg(test)]
 mod history_hinter;
 #[cfg(test)]

@@ -1,5 +1,5 @@
-//! The tests of `line_screen`, the programs of the documents that stand on it, scripts of
-//! `line_script`, and hostile use.
+//! The tests of keys, their tables, bindings and commands, of `line_screen`, the programs of the
+//! documents that stand on it, scripts of `line_script`, and hostile use.
 #![tactic(auto)]
 
 #[cfg(test)]
@@ -10,11 +10,23 @@ mod by_keys;
 #[cfg(test)]
 mod caller;
 #[cfg(test)]
+mod commands;
+#[cfg(test)]
+mod definitions;
+#[cfg(test)]
 mod hostile;
 #[cfg(test)]
 mod key_queue;
 #[cfg(test)]
+mod keys;
+#[cfg(test)]
+mod maps;
+#[cfg(test)]
 mod measure;
+#[cfg(test)]
+mod names;
+#[cfg(test)]
+mod phrases;
 #[cfg(test)]
 mod plain;
 #[cfg(test)]
@@ -23,6 +35,10 @@ mod programs;
 mod read_line;
 #[cfg(test)]
 mod scripts;
+#[cfg(test)]
+mod tables;
+#[cfg(test)]
+mod vi_phrases;
 
 /// It holds in this case, of which this number says more.
 #[cfg(test)]
