@@ -375,7 +375,7 @@ fn types_count(text: &mut String, count: &str) -> Result<()> {
 const VALUES: &str =
     "all|at|behind|calls|cursor|empty|end|entries|eof|fails|fault|flags|highlighter|\
 hint|interrupted|is|kinds|last|len|line|mode|needs|own|place|proceeds|prompt|reads|recovers|\
-redraws|says|shows|style|submitted|then|trails";
+redraws|says|shows|style|submitted|then|trails|widths";
 
 /// Whether each value that a case wants is one that there is.
 fn are_values(wanted: &str) -> bool {

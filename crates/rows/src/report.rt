@@ -1,13 +1,14 @@
 //! What is seen of an editor after a row, and how it is compared with what the row wants.
 
-use line_buffer::Movement;
+use line_buffer::{Layout, Movement, Position};
 use line_config::{ReadlineError, Result};
 use line_editor::input_state::InputState;
 use line_keys::cmd::Cmd;
 use line_keys::refresher::Refresher;
 use line_script::report::write_escaped;
 use std::alloc::Global;
-use std::io::{ErrorKind, Write};
+use std::fmt::{Debug, Display};
+use std::io::{self, ErrorKind, Write};
 use tests_steps::calls::{Editor, letters};
 use tests_steps::typist::Typist;
 
@@ -189,6 +190,75 @@ fn word_of(error: &ReadlineError) -> &'static str {
     }
 }
 
+/// What is written down of an editor, a line for each value.
+struct Notes {
+    text: Vec<u8>,
+    /// Why something could not be written, if anything could not.
+    fault: Option<ReadlineError>,
+}
+
+impl Drop for Notes {
+    fn drop(self) {
+        let Notes { text: _, fault: _ } = self;
+    }
+}
+
+impl Notes {
+    /// Nothing.
+    fn new(alloc: Global) -> Notes {
+        Notes {
+            text: Vec::new(alloc),
+            fault: None,
+        }
+    }
+
+    /// Keeps why something could not be written.
+    fn keep(&mut self, outcome: io::Result<()>) {
+        if let Err(fault) = outcome {
+            self.fault = Some(ReadlineError::from(fault));
+        }
+    }
+
+    /// Writes down a value.
+    fn note<T: Display + Drop>(&mut self, name: &str, value: T) {
+        let outcome = writeln!(self.text, "{name} {value}");
+        self.keep(outcome);
+    }
+
+    /// Writes down a value as `Debug` has it.
+    fn note_debug<T: Debug + Drop>(&mut self, name: &str, value: T) {
+        let outcome = writeln!(self.text, "{name} {value:?}");
+        self.keep(outcome);
+    }
+
+    /// Writes down a place on the screen.
+    fn note_place(&mut self, name: &str, place: Position) {
+        let outcome = writeln!(self.text, "{name} {} {}", place.row, place.col);
+        self.keep(outcome);
+    }
+
+    /// Writes down a line, as scripts write it.
+    fn escape(&mut self, line: &str) {
+        let outcome = write_escaped(line, &mut self.text);
+        self.keep(outcome);
+    }
+
+    /// Writes down a text as it is.
+    fn push(&mut self, text: &str) {
+        let outcome = self.text.write_all(text.as_bytes());
+        self.keep(outcome);
+    }
+
+    /// Returns what was written down, where all could be written.
+    fn end(self) -> Result<Vec<u8>> {
+        let Notes { text, fault } = self;
+        match fault {
+            Some(fault) => Err(fault),
+            None => Ok(text),
+        }
+    }
+}
+
 /// Writes down what is seen of an editor.
 pub fn looks_at(
     alloc: Global,
@@ -197,127 +267,112 @@ pub fn looks_at(
     typist: &Typist,
     seen: &mut Seen,
 ) -> Result<()> {
-    let mut out = Vec::new(alloc);
-    looks_at_line(state, seen.outcome, &mut out)?;
-    looks_at_layout(state, &mut out)?;
-    looks_at_hint(state, &mut out)?;
-    looks_at_rest(state, input, seen, &mut out)?;
-    let before = seen.calls_before;
-    looks_at_calls(alloc, state.out().log(), typist.flags(), before, &mut out)?;
-    seen.lines = out;
+    let mut notes = Notes::new(alloc);
+    note_seen(seen, style_of(input), &mut notes);
+    note_line(state.line(), state.pos(), &mut notes);
+    note_layout(state.layout(), &mut notes);
+    notes.note("redraws", state.out().redraws());
+    note_state(state, &mut notes)?;
+    note_calls(alloc, state.out().log(), seen.calls_before, &mut notes)?;
+    note_flags(typist.flags(), &mut notes);
+    seen.lines = notes.end()?;
     Ok(())
 }
 
-/// Writes down the edit mode, what the error says, what was read, the mode, and the last insert.
-fn looks_at_rest(
-    state: &Editor<'_, '_>,
-    input: &InputState<'_>,
-    seen: &Seen,
-    out: &mut Vec<u8>,
-) -> Result<()> {
-    let style = if input.is_emacs_mode() {
+/// The edit mode, and for Vi whether commands are read.
+fn style_of(input: &InputState<'_>) -> &'static str {
+    if input.is_emacs_mode() {
         "emacs"
     } else if input.is_vi_cmd_mode() {
         "vi, command mode"
     } else {
         "vi"
-    };
-    for (name, text) in [
-        ("style ", style),
-        ("\nsays ", seen.says.as_str()),
-        ("\nreads ", seen.reads.as_str()),
-        ("\nmode ", seen.mode),
-        ("\nthen ", seen.next.as_str()),
-    ] {
-        out.extend_from_slice(name.as_bytes())?;
-        out.extend_from_slice(text.as_bytes())?;
     }
-    let last = state.last_insert()?;
-    writeln!(out, "\nlast insert {:?}", last.as_deref())?;
-    Ok(())
 }
 
-/// Writes down how the last step ended, the line, with a mark at its cursor too, and whether it has
-/// one character alone.
-fn looks_at_line(state: &Editor<'_, '_>, outcome: &'static str, out: &mut Vec<u8>) -> Result<()> {
-    let line = state.line();
-    let (before, behind) = line.split_at_checked(state.pos()).unwrap_or(("?", "?"));
-    write!(out, "outcome {outcome}\nline ")?;
-    write_escaped(line, out)?;
-    out.write_all(b"\nshows ")?;
-    write_escaped(before, out)?;
-    out.write_all(b"^")?;
-    write_escaped(behind, out)?;
-    out.write_all(b"\n")?;
-    all_alike(line, out)
+/// Writes down the edit mode, how the last step ended and what its error says, what was read, and
+/// the mode.
+fn note_seen(seen: &Seen, style: &str, notes: &mut Notes) {
+    notes.note("outcome", seen.outcome);
+    notes.note("style", style);
+    notes.note("says", seen.says.as_str());
+    notes.note("reads", seen.reads.as_str());
+    notes.note("mode", seen.mode);
+    notes.note("then", seen.next.as_str());
 }
 
-/// Writes down the character of a line that has one alone, however often.
-fn all_alike(line: &str, out: &mut Vec<u8>) -> Result<()> {
+/// Writes down the line, with a mark at its cursor too, its numbers, and its character where it has
+/// one alone, however often.
+fn note_line(line: &str, pos: usize, notes: &mut Notes) {
+    let (before, behind) = line.split_at_checked(pos).unwrap_or(("?", "?"));
+    notes.push("line ");
+    notes.escape(line);
+    notes.push("\nshows ");
+    notes.escape(before);
+    notes.push("^");
+    notes.escape(behind);
+    notes.push("\n");
+    notes.note("cursor", pos);
+    notes.note("len", line.len());
     if let Some(first) = line.chars().next()
         && line.trim_start_matches(first).is_empty()
     {
-        writeln!(out, "all {first}")?;
+        notes.note("all", first);
     }
-    Ok(())
 }
 
-/// Writes down the numbers of the cursor, the line and the history, how often the line was drawn in
-/// full, and what is kept of the layout.
-fn looks_at_layout(state: &Editor<'_, '_>, out: &mut Vec<u8>) -> Result<()> {
-    let (pos, len, place) = (state.pos(), state.line().len(), state.place());
-    let redraws = state.out().redraws();
-    writeln!(
-        out,
-        "cursor {pos}\nlen {len}\nplace {place}\nredraws {redraws}"
-    )?;
-    let layout = state.layout();
-    let (at, end, prompt) = (layout.cursor, layout.end, layout.prompt_size);
-    writeln!(out, "at {} {}\nend {} {}", at.row, at.col, end.row, end.col)?;
-    let mode = layout.grapheme_cluster_mode;
-    writeln!(out, "prompt {} {} {mode:?}", prompt.row, prompt.col)?;
-    Ok(())
-}
-
-/// Writes down whether there is a highlighter, whose prompt stands there, whether the cursor is at
-/// the end of the line and of what is drawn, whether a text trails the line, and the hint.
-fn looks_at_hint(state: &Editor<'_, '_>, out: &mut Vec<u8>) -> Result<()> {
-    let (is_lit, is_default) = (state.highlighter().is_some(), state.is_default_prompt());
-    writeln!(out, "highlighter {is_lit}\nown prompt {is_default}")?;
-    let (layout, is_at_end) = (state.layout(), state.is_cursor_at_end());
-    writeln!(
-        out,
-        "behind the line {is_at_end}\ntrails {}",
-        layout.has_info
-    )?;
-    writeln!(out, "hint {} {:?}", state.has_hint(), state.hint_text())?;
+/// Writes down what is kept of the layout.
+fn note_layout(layout: &Layout, notes: &mut Notes) {
+    notes.note_place("at", layout.cursor);
+    notes.note_place("end", layout.end);
+    notes.note_place("prompt", layout.prompt_size);
+    notes.note_debug("widths", layout.grapheme_cluster_mode);
+    notes.note("trails", layout.has_info);
     if layout.cursor == layout.end {
-        out.write_all(b"at the end of what is drawn\n")?;
+        notes.push("at the end of what is drawn\n");
     }
+}
+
+/// Writes down the place in the history, whether there is a highlighter, whose prompt stands there,
+/// whether the cursor is at the end of the line, the hint, and the last insert.
+fn note_state(state: &Editor<'_, '_>, notes: &mut Notes) -> Result<()> {
+    notes.note("place", state.place());
+    notes.note("highlighter", state.highlighter().is_some());
+    notes.note("own prompt", state.is_default_prompt());
+    notes.note("behind the line", state.is_cursor_at_end());
+    let name = if state.has_hint() {
+        "hint true"
+    } else {
+        "hint false"
+    };
+    notes.note_debug(name, state.hint_text());
+    let last = state.last_insert()?;
+    notes.note_debug("last insert", last.as_deref());
     Ok(())
 }
 
-/// Writes down the calls of the renderer, but for those before, and the flags that the reader was
-/// handed.
-fn looks_at_calls(
-    alloc: Global,
-    log: &str,
-    flags: &[bool],
-    before: usize,
-    out: &mut Vec<u8>,
-) -> Result<()> {
+/// Writes down the calls of the renderer, but for those before, and their letters.
+fn note_calls(alloc: Global, log: &str, before: usize, notes: &mut Notes) -> Result<()> {
     for call in log.lines().skip(before) {
-        writeln!(out, "log {call}")?;
+        notes.note("log", call);
     }
-    out.write_all(b"flags ")?;
-    for flag in flags {
-        out.push(if *flag { b'y' } else { b'n' })?;
-    }
-    out.write_all(if flags.is_empty() { b"none\n" } else { b"\n" })?;
     let calls = letters(alloc, log, before)?;
-    let calls = if calls.is_empty() { "none" } else { &calls };
-    writeln!(out, "calls {calls}")?;
+    notes.note("calls", or_none(calls.as_str()));
     Ok(())
+}
+
+/// The text, or a word for none.
+fn or_none(text: &str) -> &str {
+    if text.is_empty() { "none" } else { text }
+}
+
+/// Writes down the flags that the reader was handed.
+fn note_flags(flags: &[bool], notes: &mut Notes) {
+    notes.push("flags ");
+    for flag in flags {
+        notes.push(if *flag { "y" } else { "n" });
+    }
+    notes.push(if flags.is_empty() { "none\n" } else { "\n" });
 }
 
 /// Compares what a row wants with what was seen, a line for each value, and prints what differs.
