@@ -1,15 +1,13 @@
 //! Brackets: their validation results, and what the highlighter remembers, forgets and shows.
 
-use crate::completion;
 use crate::ready::{Asked, Case, is_shown, says};
 use line_config::Result;
 use line_parts::{CmdKind, Highlighter, MatchingBracketHighlighter, MatchingBracketValidator};
 use std::alloc::Global;
-use std::process::Abort;
 
 /// Whether a new highlighter that is told of the line remembers a bracket or not, as it is to; a
 /// line that is handed over has none.
-fn remembers(line: &str, pos: usize, wanted: bool) -> bool {
+pub(super) fn remembers(line: &str, pos: usize, wanted: bool) -> bool {
     for (kind, found) in [
         (CmdKind::MoveCursor, wanted),
         (CmdKind::Other, wanted),
@@ -25,7 +23,7 @@ fn remembers(line: &str, pos: usize, wanted: bool) -> bool {
 
 /// What a highlighter is told of: a line and the cursor, and then perhaps another line, by a kind
 /// and at its start.
-type Told<'t> = (&'t str, usize, Option<(CmdKind, &'t str)>);
+pub(super) type Told<'t> = (&'t str, usize, Option<(CmdKind, &'t str)>);
 
 /// Whether this highlighter shows a line as it stands, and so once it was told, with the cursor
 /// there and by a kind.
@@ -41,45 +39,28 @@ fn shows_by(
     if let Some((next, other)) = told.2 {
         let _ = highlighter.highlight_char(other, 0, next);
     }
-    before && is_shown(highlighter.highlight(alloc, line, cursor), wanted)
+    before & is_shown(highlighter.highlight(alloc, line, cursor), wanted)
 }
 
 /// Whether a line is shown so once the highlighter was told, whatever drew the first line and
 /// wherever the cursor is now; and as it stands before.
-fn shows(alloc: Global, told: Told<'_>, line: &str, wanted: &str) -> bool {
+pub(super) fn shows(alloc: Global, told: Told<'_>, line: &str, wanted: &str) -> bool {
     let mut one = MatchingBracketHighlighter::new();
     let mut other = MatchingBracketHighlighter::default();
     let by_move = (CmdKind::MoveCursor, 0);
     let by_other = (CmdKind::Other, line.len());
     shows_by(alloc, &mut one, by_move, &told, (line, wanted))
-        && shows_by(alloc, &mut other, by_other, &told, (line, wanted))
+        & shows_by(alloc, &mut other, by_other, &told, (line, wanted))
 }
 
 /// Whether this is the validation result for the brackets of a text; the unit takes each text.
-fn is_valid(alloc: Global, text: &str, wanted: (&str, &str)) -> Result<bool> {
+pub(super) fn is_valid(alloc: Global, text: &str, wanted: (&str, &str)) -> Result<bool> {
     let one = MatchingBracketValidator::new();
     let other = MatchingBracketValidator::default();
-    let right = says(alloc, &one, text, wanted)? && says(alloc, &other, text, wanted)?;
-    Ok(right && says(alloc, &(), text, ("valid", ""))?)
-}
-
-/// Whether the answer about brackets, or else about completion, is the right one.
-pub(super) fn is_right(
-    rt: &impl Abort,
-    alloc: Global,
-    text: &str,
-    asked: &Asked<'_>,
-) -> Result<bool> {
-    match *asked {
-        Asked::Verdict(name, message) => is_valid(alloc, text, (name, message)),
-        Asked::Remembered(pos, found) => Ok(remembers(text, pos, found)),
-        Asked::Match(pos, shown) => Ok(shows(alloc, (text, pos, None), text, shown)),
-        Asked::MatchIn(pos, line, shown) => Ok(shows(alloc, (text, pos, None), line, shown)),
-        Asked::MatchAfter(kind, line, shown) => {
-            Ok(shows(alloc, (text, 0, Some((kind, line))), text, shown))
-        }
-        _ => completion::is_right(rt, alloc, text, asked),
+    if !says(alloc, &one, text, wanted)? || !says(alloc, &other, text, wanted)? {
+        return Ok(false);
     }
+    says(alloc, &(), text, ("valid", ""))
 }
 
 /// Texts with a bracket at fault.

@@ -4,6 +4,7 @@
 mod faults;
 
 use crate::ready::{Asked, Case};
+use crate::{is, same};
 pub(super) use faults::Which;
 use line_config::Result;
 use line_parts::{Candidate, Pair, Quote, escape, extract_word, longest_common_prefix, unescape};
@@ -25,11 +26,17 @@ pub(super) fn is_right(
     asked: &Asked<'_>,
 ) -> Result<bool> {
     match *asked {
-        Asked::Word(pos, esc_char, start, word) => Ok(
-            text.is_char_boundary(pos)
-                && extract_word(text, pos, esc_char, breaks) == (start, word),
-        ),
-        Asked::Alike(count, wanted) => begin_alike(alloc, text, count, wanted),
+        Asked::Word(pos, esc_char, start, word) => {
+            if !text.is_char_boundary(pos) {
+                return Ok(false);
+            }
+            let (begin, found) = extract_word(text, pos, esc_char, breaks);
+            Ok(same(found, word) & (begin == start))
+        }
+        Asked::Alike(count, wanted) => {
+            let texts: Vec<&str> = text.split('|').take(count).collect(alloc)?;
+            Ok(is(longest_common_prefix(texts.as_slice()), wanted))
+        }
         Asked::Paired(replacement, other, common) => {
             are_paired(alloc, (text, replacement), other, common)
         }
@@ -37,43 +44,16 @@ pub(super) fn is_right(
             Ok(faults::elects(rt, alloc, which, (text, pos, elected, wanted)))
         }
         Asked::Escaped(esc_char, quote, wanted) => {
-            is_escaped(alloc, text, esc_char, quote, wanted)
+            let text = String::from_str(alloc, text)?;
+            Ok(same(escape(text, esc_char, breaks, quote)?.as_str(), wanted))
         }
-        Asked::Unescaped(esc_char, wanted, same) => {
-            is_unescaped(alloc, text, esc_char, wanted, same)
+        Asked::Unescaped(esc_char, wanted, itself) => {
+            let found = unescape(alloc, text, esc_char)?;
+            let is_itself = matches!(found, CowStr::Borrowed(_));
+            Ok(same(found.as_str(), wanted) & (is_itself == itself))
         }
         _ => Ok(false),
     }
-}
-
-/// Whether this is the text with its escapes.
-fn is_escaped(
-    alloc: Global,
-    text: &str,
-    esc_char: Option<char>,
-    quote: Quote,
-    wanted: &str,
-) -> Result<bool> {
-    let text = String::from_str(alloc, text)?;
-    Ok(escape(text, esc_char, breaks, quote)?.as_str() == wanted)
-}
-
-/// Whether this is the text without its escapes, and whether it is the text itself as it is to be.
-fn is_unescaped(
-    alloc: Global,
-    text: &str,
-    esc_char: Option<char>,
-    wanted: &str,
-    same: bool,
-) -> Result<bool> {
-    let found = unescape(alloc, text, esc_char)?;
-    Ok(found.as_str() == wanted && matches!(found, CowStr::Borrowed(_)) == same)
-}
-
-/// Whether so many of the first texts, with a stroke between two, begin so in common.
-fn begin_alike(alloc: Global, texts: &str, count: usize, wanted: Option<&str>) -> Result<bool> {
-    let texts: Vec<&str> = texts.split('|').take(count).collect(alloc)?;
-    Ok(longest_common_prefix(texts.as_slice()) == wanted)
 }
 
 /// A pair of these texts.
@@ -97,8 +77,9 @@ fn are_paired(
         pair_of(alloc, "other", other)?,
     ];
     let copy = pairs[0].clone()?;
-    let is_copied = (copy.display(), copy.replacement()) == (display, replacement);
-    Ok(is_copied && longest_common_prefix(&pairs) == Some(common))
+    let mut right = same(copy.display(), display) & same(copy.replacement(), replacement);
+    right &= is(longest_common_prefix(&pairs), Some(common));
+    Ok(right)
 }
 
 pub(super) const CASES: &[Case<'_>] = &[

@@ -7,6 +7,7 @@ ghost use Rattle.line_parts.specs.Completed.{listed_of};
 mod faults;
 
 use crate::ready::{Asked, Case, broken_history};
+use crate::same;
 use Way::{Boxed, ByTrait, Sorted, Unsorted};
 pub(super) use faults::{BREAKS, EACH_WAY, FAULTY};
 use line_config::Result;
@@ -133,13 +134,20 @@ fn found(
 /// put in, and a comma between candidates.
 type Offered<'t> = (usize, &'t str);
 
+/// Whether a pair is shown and put in so.
+fn is_pair(pair: &Pair, wanted: Option<(&str, &str)>) -> bool {
+    let Some((display, replacement)) = wanted else {
+        return false;
+    };
+    same(pair.display.as_str(), display) & same(pair.replacement.as_str(), replacement)
+}
+
 /// Whether this was found.
 fn is_offered(found: &(usize, Vec<Pair>), wanted: Offered<'_>) -> bool {
     let mut offers = wanted.1.split_terminator(", ");
     let mut right = found.0 == wanted.0;
     for pair in &found.1 {
-        let offer = offers.next().unwrap_or("").split_once(" → ");
-        right = right && offer == Some((pair.display.as_str(), pair.replacement.as_str()));
+        right &= is_pair(pair, offers.next().unwrap_or("").split_once(" → "));
     }
     right && offers.next().is_none()
 }
@@ -184,40 +192,30 @@ pub(super) fn completes(
 /// told.
 pub(super) type Last<'t> = (usize, Option<(&'t str, &'t str)>);
 
-/// The names of the folders `n 2999`, `n 2998` and so on, down to `n 0`.
-fn many_names(alloc: Global) -> Result<String> {
-    let mut names = String::new(alloc);
-    for number in (0..3_000).rev() {
-        let name = format!(in alloc; "n {number}/,")?;
-        names.push_str(name.as_str())?;
-    }
-    Ok(names)
-}
-
-/// Whether the last pair is the one that is told.
-fn is_last(pairs: &[Pair], last: Option<(&str, &str)>) -> bool {
-    match (last, pairs.last()) {
-        (Some(last), Some(pair)) => (pair.display.as_str(), pair.replacement.as_str()) == last,
-        (last, _) => last.is_none(),
-    }
-}
-
-/// Whether so many of some thousand folders complete the line, and the last of them is the one that
-/// is told.
+/// Whether so many of the folders `n 2999`, `n 2998` and so on, down to `n 0`, complete the line,
+/// and the last of them is the one that is told.
 pub(super) fn are_many(
     alloc: Global,
     line: &str,
     way: Way,
     (count, last): Last<'_>,
 ) -> Result<bool> {
+    let mut names = String::new(alloc);
+    for number in (0..3_000).rev() {
+        let name = format!(in alloc; "n {number}/,")?;
+        names.push_str(name.as_str())?;
+    }
     if !line.is_char_boundary(line.len()) {
         return Ok(false);
     }
-    let names = many_names(alloc)?;
     let names = names.as_str().trim_end_matches(',');
     let folder = folder_of(alloc, ("", names), Broken::Call(0), GONE)?;
     let (_, pairs) = found(alloc, way, folder, line, line.len())?;
-    Ok(pairs.len() == count && is_last(pairs.as_slice(), last))
+    let is_last = match (last, pairs.as_slice().last()) {
+        (Some(last), Some(pair)) => is_pair(pair, Some(last)),
+        (last, _) => last.is_none(),
+    };
+    Ok(is_last & (pairs.len() == count))
 }
 
 /// The names of most cases.

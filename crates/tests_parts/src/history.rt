@@ -7,7 +7,7 @@ mod searches;
 mod streams;
 mod texts;
 
-use crate::holds;
+use crate::{holds, is, sure};
 use Lines::*;
 use line_config::{ReadlineError, Result};
 use line_parts::{Escapes, FileHistory, History, MemHistory, SearchDirection};
@@ -44,7 +44,7 @@ fn push_short(rt: &impl Abort, text: &mut String, number: usize) {
     for _ in 0..3 {
         if rest > 0 {
             rest -= 1;
-            text.push(CHARACTERS[rest % 7]).expect(rt, "no fault");
+            sure(rt, text.push(CHARACTERS[rest % 7]));
             rest /= 7;
         }
     }
@@ -54,17 +54,17 @@ fn push_short(rt: &impl Abort, text: &mut String, number: usize) {
 fn lines_of(rt: &impl Abort, alloc: Global, lines: Lines) -> String {
     let mut text = String::new(alloc);
     match lines {
-        These(lines) => text.push_str(lines).expect(rt, "no fault"),
+        These(lines) => sure(rt, text.push_str(lines)),
         Numbered(first, last) => {
             for number in first..last {
-                let line = format!(in alloc; "n{number}.|").expect(rt, "no fault");
-                text.push_str(line.as_str()).expect(rt, "no fault");
+                let line = sure(rt, format!(in alloc; "n{number}.|"));
+                sure(rt, text.push_str(line.as_str()));
             }
         }
         Short(first, last) => {
             for number in first..last {
                 push_short(rt, &mut text, number);
-                text.push('|').expect(rt, "no fault");
+                sure(rt, text.push('|'));
             }
         }
         Cut(number) => {
@@ -73,7 +73,7 @@ fn lines_of(rt: &impl Abort, alloc: Global, lines: Lines) -> String {
                 let _ = text.pop();
             }
         }
-        Pieces(pieces) => return built(alloc, pieces).expect(rt, "no fault"),
+        Pieces(pieces) => return sure(rt, built(alloc, pieces)),
     }
     text
 }
@@ -91,7 +91,7 @@ fn added<H: History>(alloc: Global, history: &mut H, line: &str, owned: bool) ->
 fn fills<H: History>(rt: &impl Abort, alloc: Global, history: &mut H, lines: &str) {
     let mut owned = false;
     for line in lines.split_terminator('|') {
-        let taken = added(alloc, history, line, owned).expect(rt, "no fault");
+        let taken = sure(rt, added(alloc, history, line, owned));
         holds(rt, taken, line, 0);
         owned = !owned;
     }
@@ -101,16 +101,15 @@ fn fills<H: History>(rt: &impl Abort, alloc: Global, history: &mut H, lines: &st
 fn has<H: History>(rt: &impl Abort, history: &H, index: usize, wanted: Option<&str>) -> bool {
     let mut right = true;
     for dir in [SearchDirection::Forward, SearchDirection::Reverse] {
-        let found = history.get(index, dir).expect(rt, "no fault");
-        let is_so = match &found {
+        let found = sure(rt, history.get(index, dir));
+        right &= match &found {
             Some(found) => {
-                let borrowed = matches!(found.entry, CowStr::Borrowed(_));
-                let is_line = borrowed && wanted == Some(found.entry.as_str());
-                is_line && found.idx == index && found.pos == 0
+                let is_there = (found.idx == index) & (found.pos == 0);
+                let is_borrowed = matches!(found.entry, CowStr::Borrowed(_));
+                is_there & is_borrowed & is(Some(found.entry.as_str()), wanted)
             }
             None => wanted.is_none(),
         };
-        right = right && is_so;
     }
     right
 }
@@ -122,11 +121,12 @@ fn gives<H: History>(rt: &impl Abort, history: &H, lines: &str) {
         holds(rt, has(rt, history, count, Some(line)), line, count);
         count = count.saturating_add(1);
     }
-    let counted = history.len() == count && history.is_empty() == (count == 0);
-    let next = has(rt, history, count, None);
-    let far = has(rt, history, count.saturating_add(1_000), None);
-    let last = has(rt, history, usize::MAX, None);
-    holds(rt, counted && next && far && last, "lines", count);
+    let mut right = history.len() == count;
+    right &= history.is_empty() == (count == 0);
+    right &= has(rt, history, count, None);
+    right &= has(rt, history, count.saturating_add(1_000), None);
+    right &= has(rt, history, usize::MAX, None);
+    holds(rt, right, "lines", count);
 }
 
 /// The answer, and None where the error is of this kind, and has this text if one is told. There is
@@ -147,9 +147,7 @@ fn answer_of<T>(
     } else if text.is_empty() {
         matches!(&failed, Err(ReadlineError::Io(cause)) if cause.kind() == kind)
     } else {
-        Fault { kind, text }
-            .is_answer(alloc, &failed)
-            .expect(rt, "no fault")
+        sure(rt, Fault { kind, text }.is_answer(alloc, &failed))
     };
     holds(rt, known, text, 0);
     None

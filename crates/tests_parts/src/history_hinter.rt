@@ -3,7 +3,7 @@
 mod faults;
 
 use crate::ready::{Asked, Case, is_hint};
-pub(super) use faults::{FAULTY, asks};
+pub(super) use faults::are_handed_on;
 use line_config::Result;
 use line_parts::{Context, Hinter, History, HistoryHinter};
 use std::alloc::Global;
@@ -29,8 +29,10 @@ pub(super) fn hints<S: History>(
         ctx.set_history_index(index);
     }
     let none = ().hint(alloc, line, pos, &ctx)?.is_none();
-    let hint = hinter.hint(alloc, line, pos, &ctx)?;
-    Ok(none && is_hint(&hint, wanted))
+    match hinter.hint(alloc, line, pos, &ctx) {
+        Ok(hint) => Ok(none & is_hint(&hint, wanted)),
+        Err(error) => Err(error),
+    }
 }
 
 /// Lines of which several begin alike.

@@ -3,6 +3,8 @@
 #![tactic(auto)]
 
 #[cfg(test)]
+use std::fmt::Debug;
+#[cfg(test)]
 use std::process::Abort;
 
 #[cfg(test)]
@@ -35,4 +37,22 @@ mod values;
 #[cfg(test)]
 fn holds(rt: &impl Abort, found: bool, name: &str, number: usize) {
     assert!(rt; found, "{name} {number}");
+}
+
+/// The value; where there is none, the test fails.
+#[cfg(test)]
+fn sure<T, E: Debug + Drop>(rt: &impl Abort, outcome: Result<T, E>) -> T {
+    outcome.expect(rt, "no fault")
+}
+
+/// Whether two texts are the same.
+#[cfg(test)]
+fn same(one: &str, other: &str) -> bool {
+    one == other
+}
+
+/// Whether a text is there and the wanted one; or none, where none is wanted.
+#[cfg(test)]
+fn is(found: Option<&str>, wanted: Option<&str>) -> bool {
+    found == wanted
 }

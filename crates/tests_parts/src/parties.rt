@@ -4,7 +4,7 @@ mod faults;
 
 use crate::filename::Broken;
 use crate::ready::{Asked, Case, is_hint, is_shown, says};
-use crate::{filename, history_hinter, holds};
+use crate::{filename, history_hinter, holds, is, same, sure};
 use faults::{Answer, answers};
 use line_config::CompletionType;
 use line_parts::{Candidate, CmdKind, Context, Helper, Highlighter, Hint, History, MemHistory};
@@ -16,44 +16,39 @@ use tests_parties::fault::{CUT, Fault, GONE, USUAL};
 
 /// Whether a candidate and a hint stand for this text.
 fn stands<T: Candidate + Hint>(value: &T, text: &str) -> bool {
-    let shown = (Candidate::display(value), Hint::display(value));
-    shown == (text, text) && value.replacement() == text && value.completion() == Some(text)
+    let mut right = same(Candidate::display(value), text);
+    right &= same(Hint::display(value), text);
+    right &= same(value.replacement(), text);
+    right & is(value.completion(), Some(text))
 }
 
 /// A line that is valid, without a message.
 const VALID: Answer = Answer::Verdict("valid", "");
-
-/// Whether the unit leaves a text as it is, whatever it stands for.
-fn is_left(alloc: Global, text: &str) -> bool {
-    let unit = &mut ();
-    let is_lit = unit.highlight_char(text, 0, CmdKind::Other);
-    let candidate = unit.highlight_candidate(alloc, text, CompletionType::List);
-    !is_lit
-        && is_shown(candidate, text)
-        && is_shown(unit.highlight(alloc, text, 0), text)
-        && is_shown(unit.highlight_prompt(alloc, text, true), text)
-        && is_shown(unit.highlight_hint(alloc, text), text)
-}
 
 /// Whether an editor gets the one answer about a text from no helper and from the unit, and the
 /// other one from a helper with a hint.
 fn is_answered(rt: &impl Abort, alloc: Global, text: &str, wanted: Answer, told: Answer) -> bool {
     let mut advisor = Advisor::new(Some("!"), (true, true, None), None);
     answers(rt, alloc, None::<&mut ()>, text, wanted, None)
-        && answers(rt, alloc, Some(&mut ()), text, wanted, None)
-        && answers(rt, alloc, Some(&mut advisor), text, told, None)
+        & answers(rt, alloc, Some(&mut ()), text, wanted, None)
+        & answers(rt, alloc, Some(&mut advisor), text, told, None)
 }
 
 /// Whether a text stands for itself, the unit and no helper at all leave it as it is, and an editor
 /// gets a helper's answers about it.
 pub(super) fn stays(rt: &impl Abort, alloc: Global, text: &str) -> bool {
-    let owned = String::from_str(alloc, text).expect(rt, "no fault");
+    let owned = sure(rt, String::from_str(alloc, text));
+    let unit = &mut ();
+    let mut right = stands(&text, text) & stands(&owned, text);
+    right &= !unit.highlight_char(text, 0, CmdKind::Other);
+    let candidate = unit.highlight_candidate(alloc, text, CompletionType::List);
+    right &= is_shown(candidate, text);
+    right &= is_shown(unit.highlight(alloc, text, 0), text);
+    right &= is_shown(unit.highlight_prompt(alloc, text, true), text);
+    right &= is_shown(unit.highlight_hint(alloc, text), text);
     let hint = Answer::Hint(Some("!"));
-    stands(&text, text)
-        && stands(&owned, text)
-        && is_left(alloc, text)
-        && is_answered(rt, alloc, text, Answer::Hint(None), hint)
-        && is_answered(rt, alloc, text, VALID, VALID)
+    right &= is_answered(rt, alloc, text, Answer::Hint(None), hint);
+    right & is_answered(rt, alloc, text, VALID, VALID)
 }
 
 pub(super) const CASES: &[Case<'_>] = &[
@@ -74,12 +69,11 @@ fn tells<H: Helper>(rt: &impl Abort, alloc: Global, helper: &mut H, wanted: Told
     let history = MemHistory::new(alloc);
     let mut ctx = Context::new(&history);
     ctx.set_history_index(0);
-    let count = (history.len(), history.is_empty());
-    let is_empty = (count, ctx.history_index(), ctx.history().len()) == ((0, true), 0, 0);
-    let is_lit = helper.highlight_char("ab", 2, CmdKind::MoveCursor);
-    let hint = helper.hint(alloc, "ab", 2, &ctx).expect(rt, "no fault");
-    let is_said = says(alloc, helper, "ab", verdict).expect(rt, "no fault");
-    is_empty && is_lit == lit && is_hint(&hint, text) && is_said
+    let mut right = (history.len() == 0) & history.is_empty();
+    right &= (ctx.history_index() == 0) & (ctx.history().len() == 0);
+    right &= helper.highlight_char("ab", 2, CmdKind::MoveCursor) == lit;
+    right &= is_hint(&sure(rt, helper.hint(alloc, "ab", 2, &ctx)), text);
+    right & sure(rt, says(alloc, helper, "ab", verdict))
 }
 
 /// A folder that is not there.
@@ -88,27 +82,11 @@ const LOST: Fault = Fault {
     text: "no such folder",
 };
 
-/// Each answer of a helper is handed on, and the fault where there is one.
-fn of_helpers(rt: &impl Abort, alloc: Global, fault: Fault) {
-    for (row, case) in faults::CASES.iter().enumerate() {
-        let found = faults::hands_on(rt, alloc, case, fault);
-        holds(rt, found, fault.text, row);
-    }
-}
-
-/// So is each hint by a history, or its fault.
-fn of_hinters(rt: &impl Abort, alloc: Global, fault: Fault) {
-    for (row, case) in history_hinter::FAULTY.iter().enumerate() {
-        let found = history_hinter::asks(rt, alloc, case, fault);
-        holds(rt, found, fault.text, row);
-    }
-}
-
-/// So is what completes a line by a lister of which some calls fail, or the fault.
+/// What completes a line is handed on by a lister of which some calls fail, or the fault.
 fn of_listers(rt: &impl Abort, alloc: Global, broken: Broken, fault: Fault) {
     for (row, case) in filename::FAULTY.iter().enumerate() {
         let found = filename::completes(alloc, filename::EACH_WAY, *case, broken, fault);
-        holds(rt, found.expect(rt, "no fault"), fault.text, row);
+        holds(rt, sure(rt, found), fault.text, row);
     }
 }
 
@@ -133,8 +111,8 @@ fn answers_and_errors_are_handed_on(rt: HostRuntime) {
     let alloc = rt.alloc();
     keep_their_answers(&rt, alloc);
     for fault in [USUAL, GONE, CUT, LOST] {
-        of_helpers(&rt, alloc, fault);
-        of_hinters(&rt, alloc, fault);
+        faults::are_handed_on(&rt, alloc, fault);
+        history_hinter::are_handed_on(&rt, alloc, fault);
         for broken in filename::BREAKS {
             of_listers(&rt, alloc, *broken, fault);
         }

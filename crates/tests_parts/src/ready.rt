@@ -1,7 +1,9 @@
 //! The ready helpers: a case is a text, what is asked about it, and the right answer.
 
 use crate::filename::{AS_LISTED, Broken, IN_ORDER, Way, completes};
-use crate::{brackets, completion, filename, history_hinter, holds, large, parties};
+use crate::{
+    brackets, completion, filename, history_hinter, holds, is, large, parties, same, sure,
+};
 use line_config::{ReadlineError, Result};
 use line_parts::{
     CmdKind, Highlighter, Hint, HistoryHinter, MatchingBracketHighlighter, MemHistory, Quote,
@@ -59,15 +61,16 @@ pub(super) enum Asked<'t> {
     Many(Way, filename::Last<'t>),
 }
 
-/// The name of a validation result and its message, empty where it has none.
-pub(super) fn said(verdict: &ValidationResult) -> (&str, &str) {
-    match verdict {
+/// Whether a validation result has this name and this message, empty where it has none.
+pub(super) fn is_said(verdict: &ValidationResult, wanted: (&str, &str)) -> bool {
+    let (name, message) = match verdict {
         ValidationResult::Incomplete => ("incomplete", ""),
         ValidationResult::Invalid(Some(message)) => ("invalid", message.as_str()),
         ValidationResult::Invalid(None) => ("invalid", ""),
         ValidationResult::Valid(Some(message)) => ("valid", message.as_str()),
         ValidationResult::Valid(None) => ("valid", ""),
-    }
+    };
+    same(name, wanted.0) & same(message, wanted.1)
 }
 
 /// Whether this is the validation result for a text; none is asked for while it is typed.
@@ -79,18 +82,22 @@ pub(super) fn says<V: Validator>(
 ) -> Result<bool> {
     let context = ValidationContext::new(text);
     let verdict = validator.validate(alloc, &context)?;
-    Ok(context.input() == text && said(&verdict) == wanted && !validator.validate_while_typing())
+    let right = same(context.input(), text) & is_said(&verdict, wanted);
+    Ok(right & !validator.validate_while_typing())
 }
 
 /// Whether this text is shown.
 pub(super) fn is_shown(shown: Result<CowStr<'_>>, wanted: &str) -> bool {
-    matches!(&shown, Ok(shown) if shown.as_str() == wanted)
+    match &shown {
+        Ok(shown) => same(shown.as_str(), wanted),
+        Err(_) => false,
+    }
 }
 
 /// Whether the hint displays this text and completes the line with it; none where there is no text.
 pub(super) fn is_hint<T: Hint>(hint: &Option<T>, wanted: Option<&str>) -> bool {
     match (hint, wanted) {
-        (Some(hint), Some(text)) => hint.display() == text && hint.completion() == Some(text),
+        (Some(hint), Some(text)) => same(hint.display(), text) & is(hint.completion(), Some(text)),
         (None, None) => true,
         _ => false,
     }
@@ -109,8 +116,7 @@ fn is_right(rt: &impl Abort, alloc: Global, text: &str, asked: &Asked<'_>) -> Re
     match *asked {
         Asked::Hint(lines, index, pos, wanted) => {
             let mut history = MemHistory::new(alloc);
-            let hinter = HistoryHinter::new();
-            let hinted = (text, pos, wanted);
+            let (hinter, hinted) = (HistoryHinter::new(), (text, pos, wanted));
             history_hinter::hints(alloc, &hinter, &mut history, (lines, index), hinted)
         }
         Asked::Plain => Ok(parties::stays(rt, alloc, text)),
@@ -124,7 +130,16 @@ fn is_right(rt: &impl Abort, alloc: Global, text: &str, asked: &Asked<'_>) -> Re
             completes(alloc, ways, case, Broken::Call(0), GONE)
         }
         Asked::Many(way, last) => filename::are_many(alloc, text, way, last),
-        _ => brackets::is_right(rt, alloc, text, asked),
+        Asked::Verdict(name, message) => brackets::is_valid(alloc, text, (name, message)),
+        Asked::Remembered(pos, found) => Ok(brackets::remembers(text, pos, found)),
+        Asked::Match(pos, shown) => { Ok(brackets::shows(alloc, (text, pos, None), text, shown)) }
+        Asked::MatchIn(pos, line, shown) => {
+            Ok(brackets::shows(alloc, (text, pos, None), line, shown))
+        }
+        Asked::MatchAfter(kind, line, shown) => {
+            Ok(brackets::shows(alloc, (text, 0, Some((kind, line))), text, shown))
+        }
+        _ => completion::is_right(rt, alloc, text, asked),
     }
 }
 
@@ -139,18 +154,7 @@ pub(super) fn are_right(rt: &impl Abort, alloc: Global, table: &[Case<'_>], may_
     }
 }
 
-/// The answer about a long text, which is built of pieces, is the right one.
-fn long_is_right(rt: &impl Abort, alloc: Global, case: &large::Case, row: usize) {
-    let (long, text, wanted, other) = case;
-    let text = built(alloc, text).expect(rt, "no fault");
-    let wanted = built(alloc, wanted).expect(rt, "no fault");
-    let other = built(alloc, other).expect(rt, "no fault");
-    let asked = large::asked_of(long, text.as_str(), wanted.as_str(), other.as_str());
-    let right = is_right(rt, alloc, text.as_str(), &asked).expect(rt, "no fault");
-    holds(rt, right, text.as_str(), row);
-}
-
-/// Answers about long texts too.
+/// Answers about long texts, which are built of pieces, too.
 #[test]
 fn answers_are_right(rt: HostRuntime) {
     let alloc = rt.alloc();
@@ -160,8 +164,13 @@ fn answers_are_right(rt: HostRuntime) {
     are_right(&rt, alloc, completion::CASES, false);
     are_right(&rt, alloc, history_hinter::CASES, false);
     are_right(&rt, alloc, filename::CASES, false);
-    for (row, case) in large::CASES.iter().enumerate() {
-        long_is_right(&rt, alloc, case, row);
+    for (row, (long, text, wanted, other)) in large::CASES.iter().enumerate() {
+        let text = sure(&rt, built(alloc, text));
+        let wanted = sure(&rt, built(alloc, wanted));
+        let other = sure(&rt, built(alloc, other));
+        let asked = large::asked_of(long, text.as_str(), wanted.as_str(), other.as_str());
+        let right = sure(&rt, is_right(&rt, alloc, text.as_str(), &asked));
+        holds(&rt, right, text.as_str(), row);
     }
 }
 
@@ -205,14 +214,6 @@ const REFUSED: &[Case<'_>] = &[
     ),
 ];
 
-/// Whether the bracket that the highlighter remembers is shown, or an allocation was refused.
-fn is_lit_or_refused(alloc: Global, highlighter: &MatchingBracketHighlighter) -> bool {
-    match highlighter.highlight(alloc, "日(é)", 3) {
-        Ok(shown) => shown.as_str() == "日(é\x1b[1;34m)\x1b[0m",
-        Err(error) => matches!(error, ReadlineError::Memory),
-    }
-}
-
 /// Run with any one allocation refused, this passes: every answer is the right one, and the bracket
 /// is remembered.
 #[test]
@@ -220,8 +221,13 @@ fn a_refused_allocation_has_no_answer(rt: HostRuntime) {
     are_right(&rt, rt.alloc(), brackets::AT_FAULT, true);
     are_right(&rt, rt.alloc(), REFUSED, true);
     let mut highlighter = MatchingBracketHighlighter::new();
-    assert!(rt; highlighter.highlight_char("日(é)", 3, CmdKind::MoveCursor));
-    for _ in 0..3 {
-        assert!(rt; is_lit_or_refused(rt.alloc(), &highlighter));
+    let is_lit = highlighter.highlight_char("日(é)", 3, CmdKind::MoveCursor);
+    holds(&rt, is_lit, "bracket", 0);
+    for time in 0..3 {
+        let right = match highlighter.highlight(rt.alloc(), "日(é)", 3) {
+            Ok(shown) => same(shown.as_str(), "日(é\x1b[1;34m)\x1b[0m"),
+            Err(error) => matches!(error, ReadlineError::Memory),
+        };
+        holds(&rt, right, "bracket", time);
     }
 }

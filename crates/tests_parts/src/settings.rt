@@ -3,8 +3,8 @@
 mod copies;
 
 use self::copies::{Change, changed};
-use crate::holds;
 use crate::values::debug_text;
+use crate::{holds, same, sure};
 use line_buffer::{GraphemeClusterMode, OutOfMemory};
 use line_config::{
     Behavior, BellStyle, Builder, ColorMode, CompletionType, Config, Configurer, EditMode,
@@ -32,8 +32,8 @@ enum Made {
 /// Each setting but the behavior and the synchronized output away from its default, by the calls of
 /// whatever holds them.
 fn set_all<C: Configurer>(rt: &impl Abort, holder: &mut C) {
-    holder.set_max_history_size(7).expect(rt, "no fault");
-    holder.set_history_ignore_dups(false).expect(rt, "no fault");
+    sure(rt, holder.set_max_history_size(7));
+    sure(rt, holder.set_history_ignore_dups(false));
     holder.set_history_ignore_space(true);
     holder.set_completion_type(CompletionType::List);
     holder.set_completion_prompt_limit(9);
@@ -78,9 +78,7 @@ fn config_by(rt: &impl Abort, how: &Made) -> Config {
     match how {
         Made::New => Config::new(GraphemeClusterMode::WcWidth),
         Made::Builder => Builder::new(GraphemeClusterMode::WcWidth).build(),
-        Made::Clone => Config::new(GraphemeClusterMode::WcWidth)
-            .clone()
-            .expect(rt, "no fault"),
+        Made::Clone => sure(rt, Config::new(GraphemeClusterMode::WcWidth).clone()),
         Made::Built | Made::BuiltAndCloned => {
             let mut builder = Config::builder(GraphemeClusterMode::Unicode);
             for change in CHANGES {
@@ -88,7 +86,7 @@ fn config_by(rt: &impl Abort, how: &Made) -> Config {
             }
             match how {
                 Made::Built => builder.build(),
-                _ => builder.clone().expect(rt, "no fault").build(),
+                _ => sure(rt, builder.clone()).build(),
             }
         }
         Made::By(first, second) => {
@@ -310,36 +308,42 @@ const HOLDERS: &[Holder] = &[
     ),
 ];
 
+/// Whether the configuration with a change, its clone and that of its builder have what was set,
+/// and no configuration with another change equals it.
+fn stands_alone(rt: &impl Abort, index: usize, change: &Change) -> bool {
+    let builder = changed(rt, Config::builder(GraphemeClusterMode::Unicode), change);
+    let copy = sure(rt, builder.clone()).build();
+    let config = builder.build();
+    let clone = sure(rt, config.clone());
+    let read = settings(&config);
+    let mut right = (settings(&copy) == read) & (settings(&clone) == read);
+    for (place, other) in copies::CHANGES.iter().enumerate() {
+        let builder = changed(rt, Config::builder(GraphemeClusterMode::Unicode), other);
+        let second = builder.build();
+        let equal = index == place;
+        right &= (read == settings(&second)) == equal;
+        right &= (config == second) == equal;
+        right &= (config != second) != equal;
+    }
+    right
+}
+
 /// What was set is read back. Of the configurations with one change each equals itself alone, built
 /// anew; its clone, and that of its builder, has what was set, and leaves its source as it was.
 #[test]
 fn are_read_back_and_copied(rt: HostRuntime) {
     for (index, (how, value, shown, timeout, wanted)) in HOLDERS.iter().enumerate() {
         let config = config_by(&rt, how);
-        let again = config == config_by(&rt, how);
-        let read = (config.color_mode(*value), config.keyseq_timeout()) == (*shown, *timeout);
-        let all = match wanted {
-            Some(wanted) => settings(&config) == *wanted,
-            None => true,
-        };
-        holds(&rt, again && read && all, "row", index);
-    }
-    let changes = copies::CHANGES;
-    for (index, one) in changes.iter().enumerate() {
-        let builder = changed(&rt, Config::builder(GraphemeClusterMode::Unicode), one);
-        let copy = builder.clone().expect(&rt, "no fault").build();
-        let config = builder.build();
-        let clone = config.clone().expect(&rt, "no fault");
-        let read = settings(&config);
-        let mut apart = settings(&copy) == read && settings(&clone) == read;
-        for (place, other) in changes.iter().enumerate() {
-            let builder = changed(&rt, Config::builder(GraphemeClusterMode::Unicode), other);
-            let second = builder.build();
-            let same = index == place;
-            apart = apart && (read == settings(&second)) == same;
-            apart = apart && (config == second) == same && (config != second) != same;
+        let mut right = config == config_by(&rt, how);
+        right &= config.color_mode(*value) == *shown;
+        right &= config.keyseq_timeout() == *timeout;
+        if let Some(wanted) = wanted {
+            right &= settings(&config) == *wanted;
         }
-        holds(&rt, apart, "setting", index);
+        holds(&rt, right, "row", index);
+    }
+    for (index, change) in copies::CHANGES.iter().enumerate() {
+        holds(&rt, stands_alone(&rt, index, change), "setting", index);
     }
 }
 
@@ -355,21 +359,6 @@ enum Cause {
     Refused,
     RefusedWithValue,
     OutOfMemory,
-}
-
-fn error_of(cause: &Cause) -> ReadlineError {
-    match cause {
-        Cause::Eof => ReadlineError::Eof,
-        Cause::Interrupted => ReadlineError::Interrupted,
-        Cause::OnFire => ReadlineError::Io(io::Error::other("the disk is on fire")),
-        Cause::Memory => ReadlineError::Memory,
-        Cause::Broken => ReadlineError::from(io::Error::new(ErrorKind::BrokenPipe, "gone")),
-        Cause::Invalid => ReadlineError::from(ErrorKind::InvalidData),
-        Cause::Format => ReadlineError::from(fmt::Error),
-        Cause::Refused => ReadlineError::from(AllocError),
-        Cause::RefusedWithValue => ReadlineError::from(AllocFailed { value: 7u8 }),
-        Cause::OutOfMemory => ReadlineError::from(OutOfMemory),
-    }
 }
 
 /// A cause; the text and what `Debug` shows, where these are written down; and the kind of an error
@@ -412,32 +401,32 @@ const ERRORS: &[Error] = &[
 /// Whether an error is told by its cause.
 fn is_told(rt: &impl Abort, alloc: Global, told: &Error) -> bool {
     let (cause, text, name, kind) = told;
-    let error = error_of(cause);
+    let error = match cause {
+        Cause::Eof => ReadlineError::Eof,
+        Cause::Interrupted => ReadlineError::Interrupted,
+        Cause::OnFire => ReadlineError::Io(io::Error::other("the disk is on fire")),
+        Cause::Memory => ReadlineError::Memory,
+        Cause::Broken => ReadlineError::from(io::Error::new(ErrorKind::BrokenPipe, "gone")),
+        Cause::Invalid => ReadlineError::from(ErrorKind::InvalidData),
+        Cause::Format => ReadlineError::from(fmt::Error),
+        Cause::Refused => ReadlineError::from(AllocError),
+        Cause::RefusedWithValue => ReadlineError::from(AllocFailed { value: 7u8 }),
+        Cause::OutOfMemory => ReadlineError::from(OutOfMemory),
+    };
     let found = match &error {
         ReadlineError::Io(cause) => Some(cause.kind()),
         _ => None,
     };
-    let shown = error.to_string(alloc).expect(rt, "no fault");
-    let is_shown = shown.as_str() == text.unwrap_or(shown.as_str());
+    let shown = sure(rt, error.to_string(alloc));
+    let mut right = same(shown.as_str(), text.unwrap_or(shown.as_str()));
     let named = debug_text(rt, alloc, error);
-    is_shown && named.as_str() == name.unwrap_or(named.as_str()) && found == *kind
+    right &= same(named.as_str(), name.unwrap_or(named.as_str()));
+    right & (found == *kind)
 }
 
 /// Whether a prompt has these two forms.
 fn is_prompt<P: Prompt>(prompt: &P, raw: &str, styled: &str) -> bool {
-    (prompt.raw(), prompt.styled()) == (raw, styled)
-}
-
-/// Of a prompt the raw form comes first.
-fn are_prompts(rt: &impl Abort, alloc: Global) -> bool {
-    let raw = String::from_str(alloc, "> ").expect(rt, "no fault");
-    let is_owned = is_prompt(&raw, "> ", "> ");
-    let styled = String::from_str(alloc, "\x1b[1m> \x1b[0m").expect(rt, "no fault");
-    let are_owned = is_prompt(&(raw, styled), "> ", "\x1b[1m> \x1b[0m");
-    is_prompt(&"> ", "> ", "> ")
-        && is_prompt(&("> ", "styled"), "> ", "styled")
-        && is_owned
-        && are_owned
+    same(prompt.raw(), raw) & same(prompt.styled(), styled)
 }
 
 /// Errors are told by their cause; of a prompt the raw form comes first.
@@ -446,7 +435,13 @@ fn errors_and_prompts(rt: HostRuntime) {
     for (index, told) in ERRORS.iter().enumerate() {
         holds(&rt, is_told(&rt, rt.alloc(), told), "row", index);
     }
-    let shown = OutOfMemory.to_string(rt.alloc()).expect(&rt, "no fault");
-    holds(&rt, shown.as_str() == "out of memory", "error", 0);
-    holds(&rt, are_prompts(&rt, rt.alloc()), "prompts", 0);
+    let shown = sure(&rt, OutOfMemory.to_string(rt.alloc()));
+    holds(&rt, same(shown.as_str(), "out of memory"), "error", 0);
+    let raw = sure(&rt, String::from_str(rt.alloc(), "> "));
+    let mut right = is_prompt(&raw, "> ", "> ");
+    let styled = sure(&rt, String::from_str(rt.alloc(), "\x1b[1m> \x1b[0m"));
+    right &= is_prompt(&(raw, styled), "> ", "\x1b[1m> \x1b[0m");
+    right &= is_prompt(&"> ", "> ", "> ");
+    right &= is_prompt(&("> ", "styled"), "> ", "styled");
+    holds(&rt, right, "prompts", 0);
 }

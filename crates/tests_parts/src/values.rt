@@ -1,7 +1,7 @@
 //! Types that are compared, ordered, copied and shown: no two values of a list are equal, and
 //! `Debug` names each.
 
-use crate::holds;
+use crate::{holds, same, sure};
 use line_buffer::{
     At, Changeset, CharSearch, Direction, GraphemeClusterMode, KillRing, Layout, LineBuffer, Mode,
     Movement, OutOfMemory, Position, Word, WordAction,
@@ -19,7 +19,7 @@ use std::process::Abort;
 
 /// The text that `Debug` shows.
 pub(super) fn debug_text<T: Debug + Drop>(rt: &impl Abort, alloc: Global, value: T) -> String {
-    format!(in alloc; "{value:?}").expect(rt, "no fault")
+    sure(rt, format!(in alloc; "{value:?}"))
 }
 
 /// Each value is shown by its name, and is equal, a copy of it included, where it stands at the
@@ -31,11 +31,11 @@ fn are_distinct<T: Clone + Drop + PartialEq + Debug>(
 ) {
     for (index, (one, name)) in values.iter().enumerate() {
         let shown = debug_text(rt, alloc, one);
-        let mut apart = shown.as_str() == *name;
+        let mut apart = same(shown.as_str(), name);
         for (place, (other, _)) in values.iter().enumerate() {
-            let copy = other.clone().expect(rt, "no fault");
-            let same = index == place;
-            apart = apart && (*one == copy) == same && (*one != copy) != same;
+            let copy = sure(rt, other.clone());
+            apart &= (*one == copy) == (index == place);
+            apart &= (*one != copy) != (index == place);
         }
         holds(rt, apart, name, index);
     }
@@ -196,52 +196,39 @@ const QUOTES: &[(Quote, &str)] = &[
 
 const ESCAPES: &[(Escapes, &str)] = &[(Escapes::V2, "V2"), (Escapes::V3, "V3")];
 
-/// No two of these are equal: what the line buffer takes and gives.
-fn of_lines(rt: &impl Abort, alloc: Global) {
-    are_distinct(rt, alloc, WORDS);
-    are_distinct(rt, alloc, PLACES);
-    are_distinct(rt, alloc, SEARCHES);
-    are_distinct(rt, alloc, MODES);
-    are_distinct(rt, alloc, CLUSTERS);
-    are_distinct(rt, alloc, ACTIONS);
-    are_distinct(rt, alloc, SIDES);
-    are_distinct(rt, alloc, POSITIONS);
-    are_distinct(rt, alloc, MOVEMENTS);
-    are_distinct(rt, alloc, &[(OutOfMemory, "OutOfMemory")]);
-}
-
-/// No two of these are equal: settings, and what the parts take.
-fn of_settings(rt: &impl Abort, alloc: Global) {
-    are_distinct(rt, alloc, BELLS);
-    are_distinct(rt, alloc, DUPLICATES);
-    are_distinct(rt, alloc, COMPLETIONS);
-    are_distinct(rt, alloc, STYLES);
-    are_distinct(rt, alloc, COLORS);
-    are_distinct(rt, alloc, BEHAVIORS);
-    are_distinct(rt, alloc, KINDS);
-    are_distinct(rt, alloc, DIRECTIONS);
-    are_distinct(rt, alloc, QUOTES);
-    are_distinct(rt, alloc, ESCAPES);
-}
-
-/// Whether two places are in the order of their places in the list, by each comparison.
-fn are_in_order(one: &Position, other: &Position, index: usize, place: usize) -> bool {
-    let order = index.cmp(&place);
-    one.cmp(other) == order
-        && one.partial_cmp(other) == Some(order)
-        && (*one < *other) == (index < place)
-}
-
 /// No two of a list are equal, copies included, and `Debug` names each. Positions are in order, by
 /// each comparison.
 #[test]
 fn no_two_are_equal(rt: HostRuntime) {
-    of_lines(&rt, rt.alloc());
-    of_settings(&rt, rt.alloc());
+    let alloc = rt.alloc();
+    are_distinct(&rt, alloc, WORDS);
+    are_distinct(&rt, alloc, PLACES);
+    are_distinct(&rt, alloc, SEARCHES);
+    are_distinct(&rt, alloc, MODES);
+    are_distinct(&rt, alloc, CLUSTERS);
+    are_distinct(&rt, alloc, ACTIONS);
+    are_distinct(&rt, alloc, SIDES);
+    are_distinct(&rt, alloc, POSITIONS);
+    are_distinct(&rt, alloc, MOVEMENTS);
+    are_distinct(&rt, alloc, &[(OutOfMemory, "OutOfMemory")]);
+    are_distinct(&rt, alloc, BELLS);
+    are_distinct(&rt, alloc, DUPLICATES);
+    are_distinct(&rt, alloc, COMPLETIONS);
+    are_distinct(&rt, alloc, STYLES);
+    are_distinct(&rt, alloc, COLORS);
+    are_distinct(&rt, alloc, BEHAVIORS);
+    are_distinct(&rt, alloc, KINDS);
+    are_distinct(&rt, alloc, DIRECTIONS);
+    are_distinct(&rt, alloc, QUOTES);
+    are_distinct(&rt, alloc, ESCAPES);
     let positions = POSITIONS;
     for (index, (one, name)) in positions.iter().enumerate() {
         for (place, (other, _)) in positions.iter().enumerate() {
-            holds(&rt, are_in_order(one, other, index, place), name, place);
+            let order = index.cmp(&place);
+            let mut right = one.cmp(other) == order;
+            right &= one.partial_cmp(other) == Some(order);
+            right &= (*one < *other) == (index < place);
+            holds(&rt, right, name, place);
         }
     }
 }
@@ -252,7 +239,7 @@ type Found = (&'static str, usize, usize);
 /// The result of a search, which borrows its line or owns it.
 fn result_of(rt: &impl Abort, alloc: Global, found: &Found, owned: bool) -> SearchResult<'static> {
     let entry = if owned {
-        CowStr::Owned(String::from_str(alloc, found.0).expect(rt, "no fault"))
+        CowStr::Owned(sure(rt, String::from_str(alloc, found.0)))
     } else {
         CowStr::Borrowed(found.0)
     };
@@ -272,19 +259,23 @@ const RESULTS: &[Found] = &[
     ("ab", 1, 1),
 ];
 
-/// Whether two results are the same or not, as they are to be, also where one of them is copied or
-/// owns its line.
-fn are_apart(rt: &impl Abort, alloc: Global, one: &Found, other: &Found, same: bool) -> bool {
-    let mine = result_of(rt, alloc, one, false);
-    let theirs = result_of(rt, alloc, other, false);
-    let copy = mine.clone().expect(rt, "no fault");
-    let owned = result_of(rt, alloc, one, true)
-        .clone()
-        .expect(rt, "no fault");
-    (mine == theirs) == same
-        && (mine != theirs) != same
-        && (copy == result_of(rt, alloc, other, true)) == same
-        && (owned == theirs) == same
+/// No two results are equal, also where one of them is copied or owns its line.
+fn of_results(rt: &impl Abort, alloc: Global) {
+    let results = RESULTS;
+    for (index, one) in results.iter().enumerate() {
+        let mine = result_of(rt, alloc, one, false);
+        let copy = sure(rt, mine.clone());
+        let owned = sure(rt, result_of(rt, alloc, one, true).clone());
+        for (place, other) in results.iter().enumerate() {
+            let theirs = result_of(rt, alloc, other, false);
+            let equal = index == place;
+            let mut apart = (mine == theirs) == equal;
+            apart &= (mine != theirs) != equal;
+            apart &= (copy == result_of(rt, alloc, other, true)) == equal;
+            apart &= (owned == theirs) == equal;
+            holds(rt, apart, one.0, index);
+        }
+    }
 }
 
 /// A value that is shown in pieces.
@@ -302,9 +293,9 @@ enum Shown {
 fn text_of(rt: &impl Abort, alloc: Global, which: &Shown) -> String {
     match which {
         Shown::Line | Shown::Changes => {
-            let mut line = LineBuffer::init(alloc, "ab日", 2).expect(rt, "no fault");
+            let mut line = sure(rt, LineBuffer::init(alloc, "ab日", 2));
             let mut changes = Changeset::new(alloc);
-            line.yank("xyz", 1, &mut changes).expect(rt, "no fault");
+            sure(rt, line.yank("xyz", 1, &mut changes));
             match which {
                 Shown::Line => debug_text(rt, alloc, line),
                 _ => debug_text(rt, alloc, changes),
@@ -312,7 +303,7 @@ fn text_of(rt: &impl Abort, alloc: Global, which: &Shown) -> String {
         }
         Shown::Ring => {
             let mut ring = KillRing::new(alloc, 7);
-            ring.kill("uvw", Mode::Append).expect(rt, "no fault");
+            sure(rt, ring.kill("uvw", Mode::Append));
             debug_text(rt, alloc, ring)
         }
         Shown::Layout => {
@@ -326,9 +317,8 @@ fn text_of(rt: &impl Abort, alloc: Global, which: &Shown) -> String {
             debug_text(rt, alloc, error)
         }
         Shown::Builder | Shown::Config => {
-            let builder = Config::builder(GraphemeClusterMode::Unicode)
-                .max_history_size(7)
-                .expect(rt, "no fault");
+            let builder = Config::builder(GraphemeClusterMode::Unicode);
+            let builder = sure(rt, builder.max_history_size(7));
             match which {
                 Shown::Builder => debug_text(rt, alloc, builder),
                 _ => debug_text(rt, alloc, builder.build()),
@@ -373,22 +363,19 @@ fn pieces_results_and_defaults(rt: HostRuntime) {
     let config = text_of(&rt, alloc, &Shown::Config);
     let builder = text_of(&rt, alloc, &Shown::Builder);
     let (config, builder) = (config.as_str(), builder.as_str());
-    let named = builder.starts_with("Builder") && config.starts_with("Config");
-    holds(&rt, named && builder.contains(config), "builder", 0);
+    let named = builder.starts_with("Builder") & config.starts_with("Config");
+    holds(&rt, named & builder.contains(config), "builder", 0);
     let shown = text_of(&rt, alloc, &Shown::Found);
     let whole = "SearchResult { entry: \"ab\", idx: 7, pos: 3 }";
-    holds(&rt, shown.as_str() == whole, "result", 0);
-    let results = RESULTS;
-    for (index, one) in results.iter().enumerate() {
-        for (place, other) in results.iter().enumerate() {
-            let apart = are_apart(&rt, alloc, one, other, index == place);
-            holds(&rt, apart, one.0, index);
-        }
-    }
-    let origin = Position::default();
-    let is_first = origin.row == 0 && origin.col == 0 && origin == Position { row: 0, col: 0 };
-    let (bell, behavior) = (BellStyle::default(), Behavior::default());
-    let is_audible = matches!(bell, BellStyle::Audible) && bell == BellStyle::Audible;
-    let is_plain = matches!(behavior, Behavior::Stdio) && behavior == Behavior::Stdio;
-    holds(&rt, is_first && is_audible && is_plain, "defaults", 0);
+    holds(&rt, same(shown.as_str(), whole), "result", 0);
+    of_results(&rt, alloc);
+    let (origin, bell, behavior) = (
+        Position::default(),
+        BellStyle::default(),
+        Behavior::default(),
+    );
+    let mut right = (origin.row == 0) & (origin.col == 0) & (origin == Position { row: 0, col: 0 });
+    right &= matches!(bell, BellStyle::Audible) & (bell == BellStyle::Audible);
+    right &= matches!(behavior, Behavior::Stdio) & (behavior == Behavior::Stdio);
+    holds(&rt, right, "defaults", 0);
 }

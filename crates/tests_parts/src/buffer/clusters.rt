@@ -90,22 +90,22 @@ const TEXTS: &[(&str, Asked)] = &[
 #[test]
 fn of_texts(rt: HostRuntime) {
     for (index, (text, asked)) in TEXTS.iter().enumerate() {
-        let is_answer = match asked {
-            First(place) => first_parting(text) == *place,
-            Last(end, place) => text.is_char_boundary(*end) && last_parting(text, *end) == *place,
+        let right = match *asked {
+            First(place) => first_parting(text) == place,
+            Last(end, place) => text.is_char_boundary(end) && last_parting(text, end) == place,
             Printable(printable, plain) => {
-                is_printable_text(text) == *printable && is_plain_text(text) == *plain
+                (is_printable_text(text) == printable) & (is_plain_text(text) == plain)
             }
             Widths(whole, characters, pieces) => {
-                Unicode.width(text) == *whole
-                    && WcWidth.width(text) == *characters
-                    && NoZwj.width(text) == *pieces
-                    && Layout::new(NoZwj).width(text) == *pieces
+                let mut right = Unicode.width(text) == whole;
+                right &= WcWidth.width(text) == characters;
+                right &= NoZwj.width(text) == pieces;
+                right & (Layout::new(NoZwj).width(text) == pieces)
             }
             Lone(c, width, printable) => {
-                lone_width(*c) == *width && is_printable(*c) == *printable
+                (lone_width(c) == width) & (is_printable(c) == printable)
             }
         };
-        holds(&rt, is_answer, text, index);
+        holds(&rt, right, text, index);
     }
 }

@@ -9,7 +9,7 @@ use self::Wanted::*;
 use super::kills::{Gone, is_killed};
 use super::texts::{Given, is_given};
 use super::{FAMILY, indents, kills, large, texts, undo};
-use crate::holds;
+use crate::{holds, same, sure};
 use line_buffer::WordAction::*;
 use line_buffer::{
     Changeset, KillRing, LineBuffer, Movement, OutOfMemory, RepeatCount, WordAction,
@@ -106,7 +106,7 @@ pub(super) fn edited(
     let place = match step {
         Text(call, text) => return handed(rt, line, changes, call, text),
         Much(call) => {
-            let text = "日 ".repeat(alloc, 1_000).expect(rt, "no fault");
+            let text = sure(rt, "日 ".repeat(alloc, 1_000));
             return handed(rt, line, changes, call, text.as_str());
         }
         Written(c, n, place) => {
@@ -132,9 +132,9 @@ fn given(
     ensures { OnOk result (Tells changes.new.entries line.new.text) }
 {
     let (text, wanted) = match step {
-        Copy(mvt, wanted) => (line.copy(mvt)?, wanted),
-        LastInsert(wanted) => (changes.last_insert()?, wanted),
-        Deleted(n, wanted) => (line.delete(*n, changes)?, wanted),
+        Copy(mvt, wanted) => (line.copy(mvt), wanted),
+        LastInsert(wanted) => (changes.last_insert(), wanted),
+        Deleted(n, wanted) => (line.delete(*n, changes), wanted),
         Kill(mvt, gone) => {
             return Ok(Some(is_killed(&line.kill(mvt, changes, ring)?, ring, gone)));
         }
@@ -144,7 +144,7 @@ fn given(
         }
         _ => return changed(line, changes, step),
     };
-    Ok(Some(is_given(text.as_deref(), *wanted)))
+    Ok(Some(is_given(text?.as_deref(), *wanted)))
 }
 
 /// Makes a call that answers, or that is of a group.
@@ -286,13 +286,13 @@ pub(super) fn is_left(
     let found = match *wanted {
         Any => true,
         Is(last, left, cursor, count) => {
-            text == left && (answer, place, entries) == (last, cursor, count)
+            same(text, left) & (answer == last) & (place == cursor) & (entries == count)
         }
         Long(last, len, cursor, count) => {
-            (answer, text.len(), place, entries) == (last, len, cursor, count)
+            (text.len() == len) & (answer == last) & (place == cursor) & (entries == count)
         }
-        Back(last, left) => text == left && answer == Some(last),
-        Left(left) => text == left && answer == None,
+        Back(last, left) => same(text, left) & (answer == Some(last)),
+        Left(left) => same(text, left) & answer.is_none(),
         Yes => answer == Some(true),
         Never => false,
     };

@@ -27,7 +27,7 @@ pub(super) fn is_killed(
             let went = is_given(Some(text.as_str()), Some((*part, *times)));
             went && place == at && side == from && is_given(ring.yank(), kept)
         }
-        (None, None) => ring.yank() == None,
+        (None, None) => ring.yank().is_none(),
         _ => false,
     }
 }

@@ -2,12 +2,10 @@
 
 use self::Move::*;
 use super::FAMILY;
-use crate::holds;
+use crate::{holds, sure};
 use line_buffer::At::{self, *};
 use line_buffer::Word::{self, *};
 use line_buffer::{CharSearch as Search, GraphemeClusterMode, Layout, LineBuffer, RepeatCount};
-use std::alloc::Global;
-use std::process::Abort;
 
 /// A call that moves the cursor. It says whether it finds a place.
 enum Move {
@@ -307,30 +305,27 @@ fn moved(line: &mut LineBuffer, layout: &Layout, step: &Move) -> bool {
         LineUp(n) => line.move_to_line_up(n, layout),
         LineDown(n) => line.move_to_line_down(n, layout),
         Stands(next, prev, at_end, white) => {
-            (line.next_pos(1), line.prev_pos(1)) == (next, prev)
-                && (line.is_cursor_at_end(), line.is_end_of_input()) == (at_end, white)
+            let mut right = line.next_pos(1) == next;
+            right &= line.prev_pos(1) == prev;
+            right &= line.is_cursor_at_end() == at_end;
+            right & (line.is_end_of_input() == white)
         }
     }
 }
 
-/// Whether the call finds the place, or leaves the cursor where it is, and leaves the text as it
-/// is.
-fn is_right(rt: &impl Abort, alloc: Global, layout: &Layout, case: &Case) -> bool {
-    let (text, pos, step, place) = case;
-    assert!(rt; text.is_char_boundary(*pos));
-    let mut line = LineBuffer::init(alloc, text, *pos).expect(rt, "no fault");
-    let found = moved(&mut line, layout, step);
-    let stands = found == place.is_some() && line.pos() == place.unwrap_or(*pos);
-    stands && (line.is_empty(), line.len()) == (text.is_empty(), text.len())
-}
-
-/// The calls are made on a screen whose prompt takes two columns.
+/// Each call finds its place, or leaves the cursor where it is, and leaves the text as it is. The
+/// calls are made on a screen whose prompt takes two columns.
 #[test]
 fn of_the_cursor(rt: HostRuntime) {
     let mut layout = Layout::new(GraphemeClusterMode::Unicode);
     layout.prompt_size.col = 2;
-    for (index, case) in MOVES.iter().enumerate() {
-        let right = is_right(&rt, rt.alloc(), &layout, case);
-        holds(&rt, right, case.0, index);
+    for (index, (text, pos, step, place)) in MOVES.iter().enumerate() {
+        assert!(&rt; text.is_char_boundary(*pos));
+        let mut line = sure(&rt, LineBuffer::init(rt.alloc(), text, *pos));
+        let mut right = moved(&mut line, &layout, step) == place.is_some();
+        right &= line.pos() == place.unwrap_or(*pos);
+        right &= line.is_empty() == text.is_empty();
+        right &= line.len() == text.len();
+        holds(&rt, right, text, index);
     }
 }

@@ -7,7 +7,7 @@ use super::edits::Edit::{self, *};
 use super::edits::Line::*;
 use super::edits::Wanted::*;
 use super::edits::{Row, edited, is_left};
-use crate::holds;
+use crate::{holds, is, same};
 use line_buffer::Direction::Forward;
 use line_buffer::Mode::Append;
 use line_buffer::Movement::{EndOfLine, WholeBuffer};
@@ -80,9 +80,9 @@ const ROWS: &[Row] = &[
 /// enough; else the list is empty with no open group, and the cursor stands on a boundary.
 fn stands(line: &LineBuffer, changes: &mut Changeset, (start, step, wanted): &Row) -> bool {
     if matches!(step, Copy(..) | LastInsert(..)) {
-        return changes.len() == 1 && line.as_str() == "aé日 b日";
+        return changes.len() == 1 && same(line.as_str(), "aé日 b日");
     }
-    let stays = line.pos() == 3 && line.as_str() == TEXT;
+    let stays = line.pos() == 3 && same(line.as_str(), TEXT);
     let changes_nothing = matches!((start, step, wanted), (On(..), Begin, _) | (_, _, Never));
     let settled = changes.is_empty() && matches!(changes.end(), Ok(false));
     settled && line.as_str().is_char_boundary(line.pos()) && (stays || !changes_nothing)
@@ -139,8 +139,16 @@ fn of_calls(rt: HostRuntime) {
 /// Three kills into a ring of two texts.
 const KILLS: &[[&str; 3]] = &[["a", "bc", "def"], ["a", "bcdefghijklmnopqrstuvwxyz", "b"]];
 
+/// The length of the text that a yank-pop takes away, zero where it gives nothing.
+fn popped(ring: &mut KillRing) -> usize {
+    match ring.yank_pop() {
+        Some((size, _)) => size,
+        None => 0,
+    }
+}
+
 /// A ring that refused a kill holds no more texts than its size: every other yank-pop gives the
-/// same.
+/// same. A kill for itself is yanked, unless it was refused.
 #[test]
 fn of_kills(rt: HostRuntime) {
     for (index, texts) in KILLS.iter().enumerate() {
@@ -149,20 +157,12 @@ fn of_kills(rt: HostRuntime) {
         for text in texts {
             let killed = ring.kill(text, Append).is_ok();
             ring.reset();
-            found = found && (!killed || ring.yank() == Some(*text));
+            found &= !killed || is(ring.yank(), Some(*text));
         }
         let _ = ring.yank();
-        // the lengths of the texts that the last four yank-pops take away, zero where one gives
-        // nothing
-        let mut sizes = (0, 0, 0, 0);
-        for _ in 0..4 {
-            let size = match ring.yank_pop() {
-                Some((size, _)) => size,
-                None => 0,
-            };
-            sizes = (sizes.1, sizes.2, sizes.3, size);
-        }
-        let same = sizes.0 == sizes.2 && sizes.1 == sizes.3;
-        holds(&rt, found && same, "ring", index);
+        let (first, second) = (popped(&mut ring), popped(&mut ring));
+        found &= popped(&mut ring) == first;
+        found &= popped(&mut ring) == second;
+        holds(&rt, found, "ring", index);
     }
 }

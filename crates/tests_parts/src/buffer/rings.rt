@@ -1,9 +1,11 @@
 //! The kill ring: calls on a ring, one after another, and what they give.
 
 use self::Act::*;
-use crate::holds;
+use crate::{holds, is, sure};
 use line_buffer::KillRing;
 use line_buffer::Mode::{self, *};
+use std::alloc::Global;
+use std::process::Abort;
 
 /// A call on the ring.
 enum Act {
@@ -172,29 +174,40 @@ const ACTS: &[(usize, Act)] = &[
     (1, YankLength(80_000)),
 ];
 
+/// Makes the call. Whether it gives what it is to, where it gives something.
+fn gives(rt: &impl Abort, alloc: Global, ring: &mut KillRing, act: &Act) -> bool {
+    match *act {
+        Ring(size) => *ring = KillRing::new(alloc, size),
+        Kill(text, mode) => sure(rt, ring.kill(text, mode)),
+        Much(mode) => {
+            let text = sure(rt, "日 ".repeat(alloc, 20_000));
+            sure(rt, ring.kill(text.as_str(), mode));
+        }
+        Apart(text) => {
+            sure(rt, ring.kill(text, Append));
+            ring.reset();
+        }
+        Reset => ring.reset(),
+        Yank(text) => return is(ring.yank(), Some(text)),
+        YankLength(len) => match ring.yank() {
+            Some(text) => return text.len() == len,
+            None => return false,
+        },
+        Pop(len, text) => match ring.yank_pop() {
+            Some((size, popped)) => return is(Some(popped), Some(text)) & (size == len),
+            None => return false,
+        },
+        NoPop => return ring.yank_pop().is_none(),
+    }
+    true
+}
+
 #[test]
 fn yanks_turn_the_ring_back(rt: HostRuntime) {
     let mut ring = KillRing::new(rt.alloc(), 0);
     for (index, (times, act)) in ACTS.iter().enumerate() {
         for _ in 0..*times {
-            let mut right = true;
-            match act {
-                Ring(size) => ring = KillRing::new(rt.alloc(), *size),
-                Kill(text, mode) => ring.kill(text, *mode).expect(&rt, "no fault"),
-                Much(mode) => {
-                    let text = "日 ".repeat(rt.alloc(), 20_000).expect(&rt, "no fault");
-                    ring.kill(text.as_str(), *mode).expect(&rt, "no fault");
-                }
-                Apart(text) => {
-                    ring.kill(text, Append).expect(&rt, "no fault");
-                    ring.reset();
-                }
-                Reset => ring.reset(),
-                Yank(text) => right = ring.yank() == Some(*text),
-                YankLength(len) => right = matches!(ring.yank(), Some(text) if text.len() == *len),
-                Pop(len, text) => right = ring.yank_pop() == Some((*len, *text)),
-                NoPop => right = ring.yank_pop() == None,
-            }
+            let right = gives(&rt, rt.alloc(), &mut ring, act);
             holds(&rt, right, "row", index);
         }
     }

@@ -3,6 +3,7 @@
 ghost use Rattle.std.specs.Prelude.{true, false};
 
 use crate::ready::broken_history;
+use crate::{same, sure};
 use line_buffer::{Changeset, LineBuffer};
 use line_config::Result;
 use line_parts::{Completer, Context, History};
@@ -75,24 +76,26 @@ fn asks<C: Completer>(
     put: Put<'_>,
     faults: (Option<Fault>, Option<Fault>),
 ) -> bool {
-    let (text, pos, elected, wanted) = put;
+    let (text, pos, elected, (left, place, count)) = put;
     if !text.is_char_boundary(0) || !text.is_char_boundary(pos) {
         return false;
     }
     let history = broken_history(alloc);
     let outcome = completer.complete(alloc, text, pos, &Context::new(&history));
     let offers = match faults.0 {
-        Some(fault) => fault.is_answer(alloc, &outcome).expect(rt, "no fault"),
+        Some(fault) => sure(rt, fault.is_answer(alloc, &outcome)),
         None => matches!(&outcome, Ok((0, candidates)) if candidates.is_empty()),
     };
     let mut line = LineBuffer::init(alloc, text, pos).expect(rt, "no fault");
     let mut changes = Changeset::new(alloc);
     let outcome = completer.update(&mut line, 0, elected, &mut changes);
     let takes = match faults.1 {
-        Some(fault) => fault.is_answer(alloc, &outcome).expect(rt, "no fault"),
+        Some(fault) => sure(rt, fault.is_answer(alloc, &outcome)),
         None => outcome.is_ok(),
     };
-    offers && takes && (line.as_str(), line.pos(), changes.len()) == wanted
+    let mut right = offers & takes & same(line.as_str(), left);
+    right &= line.pos() == place;
+    right & (changes.len() == count)
 }
 
 /// A completer.
@@ -115,8 +118,8 @@ fn asks_in_a_box<C: Completer + Drop>(
     faults: (Option<Fault>, Option<Fault>),
 ) -> bool {
     let alone = asks(rt, alloc, &completer, put, faults);
-    let boxed = Box::new(alloc, completer).expect(rt, "no fault");
-    alone && asks(rt, alloc, &boxed, put, faults)
+    let boxed = sure(rt, Box::new(alloc, completer));
+    alone & asks(rt, alloc, &boxed, put, faults)
 }
 
 /// Whether this completer does so.
@@ -125,7 +128,7 @@ pub(super) fn elects(rt: &impl Abort, alloc: Global, which: Which, put: Put<'_>)
         Which::Unit => asks_in_a_box(rt, alloc, (), put, (None, None)),
         Which::Plain => asks_in_a_box(rt, alloc, Plain, put, (None, None)),
         Which::Stubborn(completes, updates) => {
-            let boxed = Box::new(alloc, Stubborn { completes, updates }).expect(rt, "no fault");
+            let boxed = sure(rt, Box::new(alloc, Stubborn { completes, updates }));
             asks_in_a_box(rt, alloc, boxed, put, (completes, updates))
         }
     }

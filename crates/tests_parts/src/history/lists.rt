@@ -2,7 +2,7 @@
 
 use super::Lines::Numbered;
 use super::{Lines, added, answer_of, fills, gives, is_saved, lines_of};
-use crate::holds;
+use crate::{holds, same, sure};
 use Escapes::{V2, V3};
 use Step::*;
 use line_buffer::GraphemeClusterMode;
@@ -52,14 +52,14 @@ fn stepped<H: History>(rt: &impl Abort, alloc: Global, history: &mut H, step: &S
         IgnoreSpace(yes) => return history.ignore_space(yes),
         Add(line, taken) | AddOwned(line, taken) => {
             let owned = matches!(step, AddOwned(..));
-            let answer = added(alloc, history, line, owned).expect(rt, "no fault");
+            let answer = sure(rt, added(alloc, history, line, owned));
             return holds(rt, answer == taken, line, 0);
         }
         Many(lines) => return fills(rt, alloc, history, lines_of(rt, alloc, lines).as_str()),
         Has(lines) => return gives(rt, history, lines_of(rt, alloc, lines).as_str()),
         _ => return holds(rt, false, "a call of any history", 0),
     };
-    outcome.expect(rt, "no fault");
+    sure(rt, outcome);
 }
 
 /// A call of a history that can be saved.
@@ -70,7 +70,7 @@ fn file_stepped(rt: &impl Abort, alloc: Global, history: &mut FileHistory, step:
         SaveV3(text) => (V3, false, text),
         AppendV3(text) => (V3, true, text),
         Load(text, wanted) => {
-            let answer = history.load_from(text.as_bytes()).expect(rt, "no fault");
+            let answer = sure(rt, history.load_from(text.as_bytes()));
             return holds(rt, answer == wanted, text, 0);
         }
         LoadBytes(text) => {
@@ -80,7 +80,17 @@ fn file_stepped(rt: &impl Abort, alloc: Global, history: &mut FileHistory, step:
         }
         _ => return stepped(rt, alloc, history, step),
     };
-    assert!(rt; is_saved(rt, alloc, history, escapes, append, text));
+    let saved = is_saved(rt, alloc, history, escapes, append, text);
+    holds(rt, saved, text, 0);
+}
+
+/// Whether this line comes; or none, where none is wanted.
+fn comes(entry: Option<&String>, wanted: Option<&str>) -> bool {
+    match (entry, wanted) {
+        (Some(entry), Some(line)) => same(entry.as_str(), line),
+        (None, None) => true,
+        _ => false,
+    }
 }
 
 /// Whether these lines come from the front, from the back, and from both ends at once.
@@ -90,23 +100,17 @@ fn come(
     mut both: Iter<'_, String>,
     lines: &str,
 ) -> bool {
+    let mut last = lines.rsplit_terminator('|');
     let mut wanted = lines.split_terminator('|');
     let mut right = true;
-    for (first, last) in lines
-        .split_terminator('|')
-        .zip(lines.rsplit_terminator('|'))
-    {
-        let comes = matches!(front.next(), Some(entry) if entry.as_str() == first);
-        let comes_back = matches!(back.next_back(), Some(entry) if entry.as_str() == last);
-        right = right && comes && comes_back;
-        if let Some(line) = wanted.next() {
-            right = right && matches!(both.next(), Some(entry) if entry.as_str() == line);
-        }
-        if let Some(line) = wanted.next_back() {
-            right = right && matches!(both.next_back(), Some(entry) if entry.as_str() == line);
-        }
+    for line in lines.split_terminator('|') {
+        right &= comes(front.next(), Some(line));
+        right &= comes(back.next_back(), last.next());
+        right &= comes(both.next(), wanted.next());
+        right &= comes(both.next_back(), wanted.next_back());
     }
-    right && front.next().is_none() && back.next_back().is_none() && both.next().is_none()
+    right &= front.next().is_none() & back.next_back().is_none();
+    right & both.next().is_none()
 }
 
 fn mem_gives(rt: &impl Abort, history: &MemHistory, lines: &str) {
@@ -118,7 +122,7 @@ fn mem_gives(rt: &impl Abort, history: &MemHistory, lines: &str) {
     );
     holds(rt, come(entries.0, entries.1, entries.2, lines), lines, 0);
     for (index, line) in history.into_iter().enumerate() {
-        let right = index < history.len() && history.entry(index) == line.as_str();
+        let right = index < history.len() && same(history.entry(index), line.as_str());
         holds(rt, right, lines, index);
     }
 }
@@ -128,7 +132,7 @@ fn file_gives(rt: &impl Abort, history: &FileHistory, lines: &str) {
     let entries = (history.iter(), history.into_iter(), history.iter());
     holds(rt, come(entries.0, entries.1, entries.2, lines), lines, 0);
     for (index, line) in history.iter().enumerate() {
-        let right = index < history.len() && history.entry(index) == line.as_str();
+        let right = index < history.len() && same(history.entry(index), line.as_str());
         holds(rt, right, lines, index);
     }
 }
@@ -264,8 +268,8 @@ pub(super) fn are_kept(rt: &impl Abort, alloc: Global, table: &[Step], in_memory
         match step {
             With(max_len, dups, space) => {
                 let mut config = Config::new(GraphemeClusterMode::Unicode);
-                config.set_max_history_size(*max_len).expect(rt, "no fault");
-                config.set_history_ignore_dups(*dups).expect(rt, "no fault");
+                sure(rt, config.set_max_history_size(*max_len));
+                sure(rt, config.set_history_ignore_dups(*dups));
                 config.set_history_ignore_space(*space);
                 history = FileHistory::with_config(alloc, &config);
                 other = MemHistory::with_config(alloc, &config);

@@ -3,7 +3,7 @@
 
 use super::streams::{BROKEN, Stream};
 use super::{added, answer_of, gives, is_saved};
-use crate::holds;
+use crate::{holds, same, sure};
 use ErrorKind::OutOfMemory;
 use Escapes::{V2, V3};
 use line_config::ReadlineError;
@@ -23,7 +23,7 @@ fn adds<H: History>(rt: &impl Abort, alloc: Global, history: &mut H, owned: bool
         return;
     };
     if full {
-        history.set_max_len(1).expect(rt, "no fault");
+        sure(rt, history.set_max_len(1));
     }
     for line in LINES.split_terminator('|') {
         let outcome = added(alloc, history, line, owned);
@@ -32,8 +32,8 @@ fn adds<H: History>(rt: &impl Abort, alloc: Global, history: &mut H, owned: bool
             if full {
                 kept.clear();
             }
-            kept.push_str(line).expect(rt, "no fault");
-            kept.push('|').expect(rt, "no fault");
+            sure(rt, kept.push_str(line));
+            sure(rt, kept.push('|'));
         }
         gives(rt, history, kept.as_str());
     }
@@ -94,12 +94,11 @@ fn reads(rt: &impl Abort, alloc: Global, written: &Written) {
     let outcome = history.load_from(written.saved.as_bytes());
     let answer = answer_of(rt, alloc, outcome, OutOfMemory, "");
     let count = history.len();
-    holds(
-        rt,
-        answer == if count == 4 { Some(true) } else { None },
-        "lines",
-        count,
-    );
+    let right = match answer {
+        Some(loaded) => loaded && count == 4,
+        None => count != 4,
+    };
+    holds(rt, right, "lines", count);
     let (lines, appended) = *written
         .left
         .get(count)
@@ -125,39 +124,48 @@ fn saves(rt: &impl Abort, alloc: Global, written: &Written, append: bool) {
     let _ = is_saved(rt, alloc, &mut history, written.escapes, true, left);
 }
 
-/// A line of so many characters that a result owns is copied. Returns 1 where an allocation was
-/// refused, and else 0.
-fn copies(rt: &impl Abort, alloc: Global, count: usize) -> usize {
-    let Ok(text) = "日".repeat(alloc, count) else {
-        return 1;
-    };
-    let Ok(line) = "日".repeat(alloc, count) else {
-        return 1;
-    };
-    let found = SearchResult {
-        entry: CowStr::Owned(line),
-        idx: 7,
-        pos: 3,
-    };
-    let copy = answer_of(rt, alloc, found.clone(), OutOfMemory, "");
-    let stays = (found.idx, found.pos) == (7, 3) && found.entry.as_str() == text.as_str();
-    let (same, refused) = match copy {
-        Some(copy) => (copy == found, 0),
-        None => (true, 1),
-    };
-    holds(rt, stays && same, "copy", count);
-    refused
+/// Lines of so many characters that a result owns are copied. Each length stands twice, so that one
+/// of the results is copied where an allocation is refused.
+fn are_copied(rt: &impl Abort, alloc: Global) {
+    let mut copied: usize = 0;
+    for count in [0, 1, 400, 5_000, 0, 1, 400, 5_000] {
+        let Ok(text) = "日".repeat(alloc, count) else {
+            continue;
+        };
+        let Ok(line) = "日".repeat(alloc, count) else {
+            continue;
+        };
+        let found = SearchResult {
+            entry: CowStr::Owned(line),
+            idx: 7,
+            pos: 3,
+        };
+        let copy = answer_of(rt, alloc, found.clone(), OutOfMemory, "");
+        let mut right = same(found.entry.as_str(), text.as_str());
+        right &= (found.idx == 7) & (found.pos == 3);
+        if let Some(copy) = copy {
+            right &= copy == found;
+            copied = copied.saturating_add(1);
+        }
+        holds(rt, right, "copy", count);
+    }
+    holds(rt, copied >= 7, "copies", copied);
 }
 
-/// Of a load that breaks off, the line before the fault is there, and is new; none may be where
-/// memory ran out. Of results each length stands twice, so that one of them is copied.
+/// Lines are added to a history of each kind.
+fn both_add(rt: &impl Abort, alloc: Global, owned: bool, full: bool) {
+    adds(rt, alloc, &mut MemHistory::new(alloc), owned, full);
+    adds(rt, alloc, &mut FileHistory::new(alloc), owned, full);
+}
+
+/// Lines are added, loaded, saved and copied. Of a load that breaks off, the line before the fault
+/// is there, and is new; none may be where memory ran out.
 #[test]
 fn of_each_call(rt: HostRuntime) {
     let alloc = rt.alloc();
-    for (owned, full) in [(false, false), (true, false), (false, true)] {
-        adds(&rt, alloc, &mut MemHistory::new(alloc), owned, full);
-        adds(&rt, alloc, &mut FileHistory::new(alloc), owned, full);
-    }
+    both_add(&rt, alloc, false, false);
+    both_add(&rt, alloc, true, false);
+    both_add(&rt, alloc, false, true);
     for written in WRITTEN {
         reads(&rt, alloc, written);
         saves(&rt, alloc, written, false);
@@ -166,19 +174,12 @@ fn of_each_call(rt: HostRuntime) {
     let mut history = FileHistory::new(alloc);
     let outcome = history.load_from(Stream::new(alloc, "#V2\na\nb", 7, &BROKEN));
     let out_of_memory = matches!(&outcome, Err(ReadlineError::Memory));
-    let (kind, text) = match out_of_memory {
-        true => (OutOfMemory, ""),
-        false => (BROKEN.0, BROKEN.1),
-    };
-    let answer = answer_of(&rt, alloc, outcome, kind, text);
+    let kind = if out_of_memory { OutOfMemory } else { BROKEN.0 };
+    let answer = answer_of(&rt, alloc, outcome, kind, BROKEN.1);
     holds(&rt, answer.is_none(), "a load breaks off", 0);
     if !(out_of_memory && history.is_empty()) {
         gives(&rt, &history, "a");
         let _ = is_saved(&rt, alloc, &mut history, V2, true, "a\n");
     }
-    let mut refused: usize = 0;
-    for count in [0, 1, 400, 5_000, 0, 1, 400, 5_000] {
-        refused = refused.saturating_add(copies(&rt, alloc, count));
-    }
-    holds(&rt, refused <= 1, "copies", refused);
+    are_copied(&rt, alloc);
 }

@@ -3,7 +3,7 @@
 
 use super::Lines::{Numbered, Pieces, Short, These};
 use super::{Lines, fills, gives, lines_of, save};
-use crate::holds;
+use crate::{holds, sure};
 use Escapes::{V2, V3};
 use line_parts::{Escapes, FileHistory, History};
 use std::alloc::Global;
@@ -26,23 +26,23 @@ pub(super) type Trip = (
 pub(super) fn come_back(rt: &impl Abort, alloc: Global, trip: &Trip) {
     let (escapes, saved, appended, limit, length, these, those) = *trip;
     let mut history = FileHistory::new(alloc);
-    history.set_max_len(10_000).expect(rt, "no fault");
+    sure(rt, history.set_max_len(10_000));
     let mut text = Vec::new(alloc);
     for (lines, append) in [(saved, false), (appended, true)] {
         if let Some(lines) = lines {
             fills(rt, alloc, &mut history, lines_of(rt, alloc, lines).as_str());
-            save(&mut history, escapes, &mut text, append).expect(rt, "no fault");
+            sure(rt, save(&mut history, escapes, &mut text, append));
         }
     }
     let mut copy = FileHistory::new(alloc);
-    copy.set_max_len(limit).expect(rt, "no fault");
-    let has_header = copy.load_from(text.as_slice()).expect(rt, "no fault");
+    sure(rt, copy.set_max_len(limit));
+    let has_header = sure(rt, copy.load_from(text.as_slice()));
     let len = text.len();
     let is_whole = length.unwrap_or(len) == len && has_header == saved.is_some();
     holds(rt, is_whole, "text", len);
     let mut lines = lines_of(rt, alloc, these);
     let others = lines_of(rt, alloc, those);
-    lines.push_str(others.as_str()).expect(rt, "no fault");
+    sure(rt, lines.push_str(others.as_str()));
     gives(rt, &copy, lines.as_str());
 }
 

@@ -2,10 +2,10 @@
 
 use super::Lines::{Numbered, Pieces, These};
 use super::{Lines, fills, gives, has, lines_of};
-use crate::holds;
+use crate::{holds, same, sure};
 use Place::{Anywhere, Start};
 use SearchDirection::{Forward, Reverse};
-use line_parts::{History, SearchDirection, SearchResult};
+use line_parts::{History, SearchDirection};
 use std::alloc::Global;
 use std::borrow::CowStr;
 use std::process::Abort;
@@ -17,28 +17,9 @@ pub(super) enum Place {
     Start,
 }
 
-/// Whether what is found is at this place: the index of a line and the byte offset in it, or a dash
-/// for nothing. It is borrowed, and so is its clone, which equals it; it is the line at its index.
-fn is_at<H: History>(
-    rt: &impl Abort,
-    alloc: Global,
-    history: &H,
-    found: &Option<SearchResult<'_>>,
-    at: &str,
-) -> bool {
-    let Some(found) = found else {
-        return at == "-";
-    };
-    let shown = format!(in alloc; "{}:{}", found.idx, found.pos).expect(rt, "no fault");
-    let is_there = shown.as_str() == at;
-    let is_line = has(rt, history, found.idx, Some(found.entry.as_str()));
-    let copy = found.clone().expect(rt, "no fault");
-    let is_copy = matches!(copy.entry, CowStr::Borrowed(_)) && copy == *found;
-    is_there && is_line && is_copy && matches!(found.entry, CowStr::Borrowed(_))
-}
-
 /// Lines, where a term has to stand, the term and how often it is repeated, the direction, the
-/// indices at which a search begins, and what is found from each of them.
+/// indices at which a search begins, and where the term is found from each of them: the index of a
+/// line and the byte offset in it, or a dash for nothing.
 pub(super) type Case = (
     Lines,
     Place,
@@ -49,14 +30,15 @@ pub(super) type Case = (
     &'static str,
 );
 
-/// A history that is filled with the lines gives them, and they are found.
+/// A history that is filled with the lines gives them, and they are found. What is found is
+/// borrowed, and so is its clone, which equals it; it is the line at its index.
 pub(super) fn finds<H: History>(rt: &impl Abort, alloc: Global, history: &mut H, case: &Case) {
     let (lines, place, term, count, dir, starts, wanted) = *case;
-    history.set_max_len(10_000).expect(rt, "no fault");
+    sure(rt, history.set_max_len(10_000));
     let lines = lines_of(rt, alloc, lines);
     fills(rt, alloc, history, lines.as_str());
     gives(rt, history, lines.as_str());
-    let term = term.repeat(alloc, count).expect(rt, "no fault");
+    let term = sure(rt, term.repeat(alloc, count));
     let history = &*history;
     let mut places = wanted.split(' ');
     for start in starts {
@@ -65,8 +47,18 @@ pub(super) fn finds<H: History>(rt: &impl Abort, alloc: Global, history: &mut H,
             Anywhere => history.search(term.as_str(), *start, dir),
             Start => history.starts_with(term.as_str(), *start, dir),
         };
-        let found = found.expect(rt, "no fault");
-        holds(rt, is_at(rt, alloc, history, &found, at), at, *start);
+        let right = match &sure(rt, found) {
+            Some(found) => {
+                let shown = sure(rt, format!(in alloc; "{}:{}", found.idx, found.pos));
+                let mut right = same(shown.as_str(), at);
+                right &= has(rt, history, found.idx, Some(found.entry.as_str()));
+                let copy = sure(rt, found.clone());
+                right &= matches!(copy.entry, CowStr::Borrowed(_)) & (copy == *found);
+                right & matches!(found.entry, CowStr::Borrowed(_))
+            }
+            None => same(at, "-"),
+        };
+        holds(rt, right, at, *start);
     }
 }
 

@@ -4,7 +4,7 @@
 
 use super::Lines::{Pieces, These};
 use super::{Lines, answer_of, fills, gives, is_saved, lines_of, save};
-use crate::holds;
+use crate::{holds, sure};
 use Escapes::{V2, V3};
 use How::{Always, Full, Interrupted, Once};
 use line_parts::{Escapes, FileHistory, History};
@@ -181,23 +181,29 @@ type Load = (
     &'static str,
 );
 
-/// A load leaves the lines that came before the place where its reader fails: in an empty history,
-/// or after a settled line where it fails once.
-fn reads(rt: &impl Abort, alloc: Global, load: &Load, place: usize, manner: &Manner) {
-    let (text, _, _, wanted, lines, appended) = *load;
-    let (kind, words, how) = *manner;
-    let settled = if matches!(how, Once) { "x|" } else { "" };
+/// A history with these lines, none of which is new.
+fn settled_history(rt: &impl Abort, alloc: Global, settled: &str) -> FileHistory {
     let mut history = FileHistory::new(alloc);
     fills(rt, alloc, &mut history, settled);
-    let settling = history.save_to(&mut Vec::new(alloc), false);
-    settling.expect(rt, "no fault");
-    let outcome = history.load_from(Stream::new(alloc, text, place, manner));
-    let answer = answer_of(rt, alloc, outcome, kind, words);
-    holds(rt, answer == wanted, text, place);
-    let lines = format!(in alloc; "{settled}{lines}").expect(rt, "no fault");
-    gives(rt, &history, lines.as_str());
-    let is_new = is_saved(rt, alloc, &mut history, V3, true, appended);
-    holds(rt, is_new, text, place);
+    sure(rt, history.save_to(&mut Vec::new(alloc), false));
+    history
+}
+
+/// A load leaves the lines that came before the place where its reader fails: in an empty history,
+/// or after a settled line where it fails once.
+fn reads(rt: &impl Abort, alloc: Global, load: &Load, manner: &Manner) {
+    let (text, first, last, wanted, lines, appended) = *load;
+    let (kind, words, how) = *manner;
+    let settled = if matches!(how, Once) { "x|" } else { "" };
+    let lines = sure(rt, format!(in alloc; "{settled}{lines}"));
+    for place in first..=last {
+        let mut history = settled_history(rt, alloc, settled);
+        let outcome = history.load_from(Stream::new(alloc, text, place, manner));
+        let mut right = answer_of(rt, alloc, outcome, kind, words) == wanted;
+        gives(rt, &history, lines.as_str());
+        right &= is_saved(rt, alloc, &mut history, V3, true, appended);
+        holds(rt, right, text, place);
+    }
 }
 
 const HEADED: &str = "#V2\nab\n\ncd\ne";
@@ -249,32 +255,25 @@ type Save = (Lines, Lines, Escapes, bool, Lines, Lines);
 /// save that fails all lines are there, and the new ones are new.
 fn writes(rt: &impl Abort, alloc: Global, case: &Save, place: usize, manner: &Manner) {
     let (settled, new, escapes, append, whole, appended) = *case;
-    let (kind, text, _) = *manner;
-    let settled = lines_of(rt, alloc, settled);
+    let mut lines = lines_of(rt, alloc, settled);
+    let mut history = settled_history(rt, alloc, lines.as_str());
     let new = lines_of(rt, alloc, new);
-    let mut history = FileHistory::new(alloc);
-    fills(rt, alloc, &mut history, settled.as_str());
-    let settling = history.save_to(&mut Vec::new(alloc), false);
-    settling.expect(rt, "no fault");
     fills(rt, alloc, &mut history, new.as_str());
+    sure(rt, lines.push_str(new.as_str()));
     let mut out = Stream::new(alloc, "", place, manner);
     let outcome = save(&mut history, escapes, &mut out, append);
-    let done = answer_of(rt, alloc, outcome, kind, text).is_some();
+    let done = answer_of(rt, alloc, outcome, manner.0, manner.1).is_some();
     let whole = lines_of(rt, alloc, whole);
-    let taken = whole.as_bytes().get(..place.min(whole.len()));
-    let is_taken = taken == Some(out.taken.as_slice());
-    holds(
-        rt,
-        is_taken && done == (place > whole.len()),
-        whole.as_str(),
-        place,
-    );
-    let lines = format!(in alloc; "{settled}{new}").expect(rt, "no fault");
+    let mut right = done == (place > whole.len());
+    right &= match whole.as_bytes().get(..place.min(whole.len())) {
+        Some(taken) => taken == out.taken.as_slice(),
+        None => false,
+    };
     gives(rt, &history, lines.as_str());
     let appended = lines_of(rt, alloc, appended);
     let left = if done { String::new(alloc) } else { appended };
-    let is_new = is_saved(rt, alloc, &mut history, escapes, true, left.as_str());
-    holds(rt, is_new, whole.as_str(), place);
+    right &= is_saved(rt, alloc, &mut history, escapes, true, left.as_str());
+    holds(rt, right, whole.as_str(), place);
 }
 
 const SAVES: &[Save] = &[
@@ -384,9 +383,7 @@ const PLACES: &[usize] = &[0, 1, 8_191, 8_192, 8_193, 9_001, 9_500, 18_001, WHOL
 fn that_fail(rt: HostRuntime) {
     for manner in MANNERS {
         for load in LOADS {
-            for place in load.1..=load.2 {
-                reads(&rt, rt.alloc(), load, place, manner);
-            }
+            reads(&rt, rt.alloc(), load, manner);
         }
         for case in SAVES {
             let length = lines_of(&rt, rt.alloc(), case.4).len();

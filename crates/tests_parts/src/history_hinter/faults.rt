@@ -2,6 +2,7 @@
 //! none whose answer is dropped.
 
 use super::{Hinted, LINES, hints};
+use crate::{holds, sure};
 use line_parts::{History, HistoryHinter, SearchDirection};
 use std::alloc::Global;
 use std::process::Abort;
@@ -11,37 +12,33 @@ use tests_parties::shelf::{Call, Failing, Shelf};
 /// The lines of a history and the index in it; which look-up fails: the one of this number, which
 /// is then the first after the hint, and those that are named; the line and the hint; and whether
 /// the fault comes instead.
-pub(crate) type Case = (
+type Case = (
     (&'static str, usize),
     (u64, Option<Failing>),
     Hinted<'static>,
     bool,
 );
 
-/// Whether the hint comes, or the fault where it is to.
-pub(crate) fn asks(rt: &impl Abort, alloc: Global, case: &Case, fault: Fault) -> bool {
-    let (lines, (number, failing), hinted, faulty) = *case;
-    let mut history = Shelf::new(alloc, number);
-    if let Some(failing) = failing {
-        history.failing = Some((failing, fault));
+/// Each hint by a history is handed on, or the fault where it is to come.
+pub(crate) fn are_handed_on(rt: &impl Abort, alloc: Global, fault: Fault) {
+    let hinter = HistoryHinter::default();
+    for (row, (lines, (number, failing), hinted, faulty)) in FAULTY.iter().enumerate() {
+        let mut history = Shelf::new(alloc, *number);
+        if let Some(failing) = failing {
+            history.failing = Some((*failing, fault));
+        }
+        let outcome = hints(alloc, &hinter, &mut history, *lines, *hinted);
+        let fails_next = *number == 0 || history.get(0, SearchDirection::Reverse).is_err();
+        let right = if *faulty {
+            fault.is_answer(alloc, &outcome)
+        } else {
+            outcome
+        };
+        holds(rt, fails_next & sure(rt, right), fault.text, row);
     }
-    let outcome = hints(
-        alloc,
-        &HistoryHinter::default(),
-        &mut history,
-        lines,
-        hinted,
-    );
-    let fails_next = number == 0 || history.get(0, SearchDirection::Reverse).is_err();
-    let right = if faulty {
-        fault.is_answer(alloc, &outcome)
-    } else {
-        outcome
-    };
-    fails_next && right.expect(rt, "no fault")
 }
 
-pub(crate) const FAULTY: &[Case] = &[
+const FAULTY: &[Case] = &[
     // Going back from an index, the history is asked: by this look-up,
     (
         (LINES, 4),

@@ -1,6 +1,7 @@
 //! Errors of a helper or a history, handed on by `HelperContext`, which an editor asks.
 
-use crate::ready::{broken_history, is_hint, said};
+use crate::ready::{broken_history, is_hint, is_said};
+use crate::{holds, sure};
 use line_buffer::LineBuffer;
 use line_config::Result;
 use line_parts::{Context, Helper, HelperContext, History};
@@ -29,7 +30,7 @@ fn answered<H: Helper, S: History>(
             Err(error) => Err(error),
         },
         Answer::Verdict(name, message) => match context.validate(alloc, line) {
-            Ok(verdict) => Ok(said(&verdict) == (name, message)),
+            Ok(verdict) => Ok(is_said(&verdict, (name, message))),
             Err(error) => Err(error),
         },
     }
@@ -51,32 +52,36 @@ pub(super) fn answers<H: Helper>(
     if !text.is_char_boundary(text.len()) {
         return false;
     }
-    let line = LineBuffer::init(alloc, text, text.len()).expect(rt, "no fault");
+    let line = sure(rt, LineBuffer::init(alloc, text, text.len()));
     let comes = match fault {
-        Some(fault) => fault.is_answer(alloc, &answered(&context, alloc, &line, wanted)),
-        None => Ok(true),
+        Some(fault) => {
+            let outcome = answered(&context, alloc, &line, wanted);
+            sure(rt, fault.is_answer(alloc, &outcome))
+        }
+        None => true,
     };
-    let again = answered(&context, alloc, &line, wanted).expect(rt, "no fault");
-    again && comes.expect(rt, "no fault")
+    comes & sure(rt, answered(&context, alloc, &line, wanted))
 }
 
 /// The hint and the validation result of a helper, the number of its answer that fails, the right
 /// answer, and whether there is the fault instead.
-pub(super) type Case = ((Option<&'static str>, Verdict), u64, Answer, bool);
+type Case = ((Option<&'static str>, Verdict), u64, Answer, bool);
 
-/// Whether the answer of a row is handed on, or the fault where it is to come.
-pub(super) fn hands_on(rt: &impl Abort, alloc: Global, case: &Case, fault: Fault) -> bool {
-    let ((hint, verdict), failing, wanted, faulty) = *case;
-    let mut advisor = Advisor::new(hint, verdict, None);
-    advisor.fail_by(failing, fault);
-    let comes = if faulty { Some(fault) } else { None };
-    answers(rt, alloc, Some(&mut advisor), "ab", wanted, comes)
+/// Each answer of a helper is handed on, or the fault where it is to come.
+pub(super) fn are_handed_on(rt: &impl Abort, alloc: Global, fault: Fault) {
+    for (row, ((hint, verdict), failing, wanted, faulty)) in CASES.iter().enumerate() {
+        let mut advisor = Advisor::new(*hint, *verdict, None);
+        advisor.fail_by(*failing, fault);
+        let comes = if *faulty { Some(fault) } else { None };
+        let right = answers(rt, alloc, Some(&mut advisor), "ab", *wanted, comes);
+        holds(rt, right, fault.text, row);
+    }
 }
 
 /// A hint, and a line that is invalid.
 const NO: (Option<&str>, Verdict) = (Some("!"), (true, false, Some("no")));
 
-pub(super) const CASES: &[Case] = &[
+const CASES: &[Case] = &[
     // An answer is asked for once, so a second one that fails does not matter.
     (NO, 0, Answer::Hint(Some("!")), false),
     (NO, 1, Answer::Hint(Some("!")), true),

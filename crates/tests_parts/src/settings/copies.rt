@@ -1,5 +1,6 @@
 //! Configurations that differ in one setting, and their copies.
 
+use crate::sure;
 use line_buffer::GraphemeClusterMode;
 use line_config::{
     Behavior, BellStyle, Builder, ColorMode, CompletionType, Config, Configurer, EditMode,
@@ -61,8 +62,8 @@ pub(super) fn changed(rt: &impl Abort, builder: Builder, change: &Change) -> Bui
     let mut builder = builder;
     match change {
         Change::Nothing => builder,
-        Change::MaxHistorySize => builder.max_history_size(7).expect(rt, "no fault"),
-        Change::HistoryDuplicates => builder.history_ignore_dups(false).expect(rt, "no fault"),
+        Change::MaxHistorySize => sure(rt, builder.max_history_size(7)),
+        Change::HistoryDuplicates => sure(rt, builder.history_ignore_dups(false)),
         Change::HistoryIgnoreSpace => builder.history_ignore_space(true),
         Change::CompletionType => builder.completion_type(CompletionType::List),
         Change::CompletionPromptLimit => builder.completion_prompt_limit(9),
