@@ -4,14 +4,12 @@
 use crate::holds;
 use crate::parties::{Failing, NOBODY};
 use crate::sessions::{
-    ASK, ASK_AT_ONCE, CURSOR, LINES, LIST, LIST_AT_ONCE, MANY, PAUSE, ROUND, ROUND_VI, SEARCH,
-    SEARCH_VI, Session, bindings, done, marked, new_session,
+    ASK, ASK_AT_ONCE, CURSOR, Desk, LINES, LIST, LIST_AT_ONCE, MANY, PAUSE, ROUND, ROUND_VI,
+    SEARCH, SEARCH_VI,
 };
 use line_config::{ReadlineError, Result};
-use line_editor::Bindings;
 use line_parts::History;
 use line_parts::history::SearchDirection;
-use line_session::editor::Fed;
 use std::alloc::Global;
 use std::process::Abort;
 use tests_parties::fault::GONE;
@@ -88,16 +86,94 @@ const CASES: &[Case] = &[
     (HELPED, LIST, MANY, "a\t\t\0", "a", ""),
 ];
 
-/// Types a character into a session. Returns whether it comes in at the cursor, as where commands
-/// are read.
-fn types_on(alloc: Global, session: &mut Session, bindings: &Bindings) -> Result<bool> {
-    let line = marked(alloc, session)?;
-    let Some((before, behind)) = line.as_str().split_once(CURSOR) else {
-        return Ok(false);
-    };
-    let wanted = format!(in alloc; "{before}z{CURSOR}{behind}")?;
-    done(session, "z", 1, bindings)?;
-    Ok(marked(alloc, session)? == wanted)
+/// Two desks at which the same is typed.
+struct Pair {
+    /// The one where someone fails.
+    desk: Desk,
+    /// The one where nobody does.
+    twin: Desk,
+    /// The line of the latter from before the last key.
+    before: String,
+    /// What came of that key at the former.
+    outcome: Result<()>,
+}
+
+impl Drop for Pair {
+    fn drop(self) {
+        let Pair {
+            desk: _,
+            twin: _,
+            before: _,
+            outcome: _,
+        } = self;
+    }
+}
+
+impl Pair {
+    /// Two desks for a case, where nothing is typed yet.
+    fn new(alloc: Global, case: &Case, failing: Failing) -> Result<Pair> {
+        Ok(Pair {
+            desk: Desk::new(alloc, case.1, case.2, failing)?,
+            twin: Desk::new(alloc, case.1, case.2, NOBODY)?,
+            before: String::new(alloc),
+            outcome: Ok(()),
+        })
+    }
+
+    /// Types a key at both.
+    fn take(&mut self, alloc: Global, step: &str) -> Result<()> {
+        self.before = line_of(alloc, &self.twin)?;
+        self.outcome = self.desk.take(step, 1);
+        self.twin.take(step, 1)
+    }
+
+    /// Types keys at both, up to the one at which someone fails.
+    fn take_all(&mut self, alloc: Global, keys: &str) -> Result<()> {
+        self.take(alloc, "»")?;
+        for at in 0..keys.len() {
+            if self.outcome.is_err() {
+                break;
+            }
+            let key = keys.get(at..at.saturating_add(1)).unwrap_or("");
+            self.take(alloc, if key == RESIZED { "↔10" } else { key })?;
+        }
+        Ok(())
+    }
+
+    /// Whether the error is that of refused memory, which can come where nobody fails.
+    fn lacks_memory(&self, failing: Failing) -> bool {
+        failing == NOBODY && matches!(&self.outcome, Err(ReadlineError::Memory))
+    }
+
+    /// Whether no line goes on, and the one that was to begin was empty.
+    fn has_none(&self) -> bool {
+        self.desk.line().is_none() && self.twin.line() == Some("")
+    }
+
+    /// Whether a line goes on, which is that from before or after the last key, or this one.
+    fn has_line(&self, start: &str) -> bool {
+        let line = self.desk.line();
+        line.is_some()
+            && (line == Some(self.before.as_str())
+                || line == Some(start)
+                || line == self.twin.line())
+    }
+
+    /// Whether a line goes on at the next calls, too.
+    fn keeps_line(&mut self, start: &str) -> Result<bool> {
+        for _ in 0..2 {
+            if !self.has_line(start) {
+                return Ok(false);
+            }
+            self.desk.take(PAUSE, 1)?;
+        }
+        Ok(true)
+    }
+}
+
+/// A copy of the line that goes on, or nothing.
+fn line_of(alloc: Global, desk: &Desk) -> Result<String> {
+    Ok(String::from_str(alloc, desk.line().unwrap_or(""))?)
 }
 
 /// Whether a history has the lines of another.
@@ -110,89 +186,77 @@ fn has_lines(one: &Shelf, other: &Shelf) -> Result<bool> {
     Ok(has)
 }
 
-/// What is wrong about what a failure left: a session with the error of the one that fails or of
-/// refused memory, after a key; and one in which nothing failed, with its line from before that
-/// key. Of what was typed nothing is lost but that key: one that was not taken is taken at the next
+/// Types a character at a desk. Returns whether it comes in at the cursor, as where commands are
+/// read.
+fn types_on(alloc: Global, desk: &mut Desk) -> Result<bool> {
+    let line = desk.marked(alloc)?;
+    let Some((before, behind)) = line.as_str().split_once(CURSOR) else {
+        return Ok(false);
+    };
+    let wanted = format!(in alloc; "{before}z{CURSOR}{behind}")?;
+    desk.take("z", 1)?;
+    Ok(desk.marked(alloc)? == wanted)
+}
+
+/// Whether no new row begins behind the last one of these texts, if there is one.
+fn breaks_list(written: &str, list: &str) -> bool {
+    match written.rsplit_once(list) {
+        Some((_, behind)) => !list.is_empty() && !behind.starts_with("\r\n"),
+        None => false,
+    }
+}
+
+/// What is wrong about what a failure left: an error that is not that of the one that fails or of
+/// refused memory; or another line than that from before the key or after it, where nothing failed.
+/// Of what was typed nothing is lost but that key: one that was not taken is taken at the next
 /// call. Nothing is wrong where this is empty.
-fn wrong(
-    alloc: Global,
-    (_, _, _, _, start, list): &Case,
-    failing: Failing,
-    outcome: &Result<Fed>,
-    session: &mut Session,
-    twin: &Session,
-    before: &str,
-    bindings: &Bindings,
-) -> Result<&'static str> {
-    let is_memory = failing == NOBODY && matches!(outcome, Err(ReadlineError::Memory));
-    if !is_memory && !GONE.is_answer(alloc, outcome)? {
+fn wrong(alloc: Global, case: &Case, failing: Failing, pair: &mut Pair) -> Result<&'static str> {
+    let is_memory = pair.lacks_memory(failing);
+    if !is_memory && !GONE.is_answer(alloc, &pair.outcome)? {
         return Ok("another error");
     }
     let can_be_none = is_memory || failing == ("output", 1);
-    if session.line().is_none() && twin.line() == Some("") && can_be_none {
+    if can_be_none && pair.has_none() {
         return Ok("");
     }
-    for _ in 0..2 {
-        let line = session.line();
-        let is_one = line == Some(before) || line == Some(*start) || line == twin.line();
-        if line.is_none() || !is_one {
-            return Ok("another line, or none");
-        }
-        done(session, PAUSE, 1, bindings)?;
+    if !pair.keeps_line(case.4)? {
+        return Ok("another line, or none");
     }
-    if !has_lines(session.history(), twin.history())? {
+    if !has_lines(pair.desk.history(), pair.twin.history())? {
         return Ok("another history");
     }
-    if !types_on(alloc, session, bindings)? {
+    if !types_on(alloc, &mut pair.desk)? {
         return Ok("no command is read");
     }
-    Ok(match session.out().written().rsplit_once(*list) {
-        Some((_, behind)) if !list.is_empty() && !behind.starts_with("\r\n") => "the row of a list",
-        _ => "",
+    Ok(if breaks_list(pair.desk.written(), case.5) {
+        "the row of a list"
+    } else {
+        ""
     })
-}
-
-/// Does what a case says in two sessions, key by key. Returns None where nothing failed, and else
-/// what is wrong then.
-fn typed(
-    alloc: Global,
-    case: &Case,
-    failing: Failing,
-    session: &mut Session,
-    twin: &mut Session,
-    bindings: &Bindings,
-) -> Result<Option<&'static str>> {
-    let mut before = String::new(alloc);
-    let mut outcome = done(session, "»", 1, bindings);
-    done(twin, "»", 1, bindings)?;
-    for at in 0..case.3.len() {
-        if outcome.is_err() {
-            break;
-        }
-        let key = case.3.get(at..at.saturating_add(1)).unwrap_or("");
-        let step = if key == RESIZED { "↔10" } else { key };
-        before = String::from_str(alloc, twin.line().unwrap_or(""))?;
-        outcome = done(session, step, 1, bindings);
-        done(twin, step, 1, bindings)?;
-    }
-    if outcome.is_ok() {
-        let (name, call) = failing;
-        let is_made = name == "output" && call <= twin.out().writes;
-        return Ok(is_made.then_some("no failure"));
-    }
-    let before = before.as_str();
-    Ok(Some(wrong(
-        alloc, case, failing, &outcome, session, twin, before, bindings,
-    )?))
 }
 
 /// Does what a case says with one that fails. Returns None where nothing failed, and else what is
 /// wrong then.
 fn failed(alloc: Global, case: &Case, failing: Failing) -> Result<Option<&'static str>> {
-    let bindings = bindings(alloc)?;
-    let mut session = new_session(alloc, case.1, case.2, failing)?;
-    let mut twin = new_session(alloc, case.1, case.2, NOBODY)?;
-    typed(alloc, case, failing, &mut session, &mut twin, &bindings)
+    let mut pair = Pair::new(alloc, case, failing)?;
+    typed(alloc, case, failing, &mut pair)
+}
+
+/// Types what a case says at two desks. Returns None where nothing failed, and else what is wrong
+/// then.
+fn typed(
+    alloc: Global,
+    case: &Case,
+    failing: Failing,
+    pair: &mut Pair,
+) -> Result<Option<&'static str>> {
+    pair.take_all(alloc, case.3)?;
+    if pair.outcome.is_err() {
+        return Ok(Some(wrong(alloc, case, failing, pair)?));
+    }
+    let (name, call) = failing;
+    let is_made = name == "output" && call <= pair.twin.session.out().writes;
+    Ok(is_made.then_some("no failure"))
 }
 
 /// How many calls past the last one are tried.

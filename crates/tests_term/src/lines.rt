@@ -1,13 +1,16 @@
 //! What comes of bytes that are typed.
 
 use crate::parties::NOBODY;
-use crate::sessions::{
-    ADD, ADD_VI, COLORLESS, Case, SEARCH, SEARCH_VI, bindings, comes_true, done, new_session,
-};
+use crate::sessions::{ADD, ADD_VI, COLORLESS, Case, Desk, SEARCH, SEARCH_VI, comes_true};
 use crate::terminal::Counted;
 use crate::{completions, holds, searches};
-use line_config::ReadlineError;
-use std::io::{self, Read};
+use line_config::{ReadlineError, Result};
+use line_editor::Bindings;
+use line_parts::{Helper, History};
+use line_session::editor::Editor;
+use std::alloc::Global;
+use std::io::{self, Read, Write};
+use std::process::Abort;
 use tests_parties::fault::GONE;
 
 /// Asks a terminal to show what follows all at once.
@@ -217,57 +220,116 @@ const READ: &[Row] = &[
     (SEARCH, "> ", 0, false, &["ab", "!", "c\r"], 4, &["!", "c"]),
 ];
 
+/// Whether a line or the end of one is what is wanted.
+fn is_wanted(wanted: Option<&str>, read: &Result<String>) -> bool {
+    match read {
+        Ok(line) => wanted == Some(line.as_str()),
+        Err(ReadlineError::Interrupted) => wanted == Some("×"),
+        Err(ReadlineError::Io(_)) => wanted == Some("!"),
+        Err(_) => false,
+    }
+}
+
+/// Reads the lines of an input, each of which is as it is wanted. Returns how many there are.
+fn reads_all<'a, O: Write + Drop, H: Helper + Drop, S: History + Drop, R: Read>(
+    rt: &impl Abort,
+    session: &'a mut Editor<O, H, S>,
+    bindings: &'a Bindings,
+    input: &'a mut R,
+    prompt: &'a (&'a str, &'a str),
+    pauses: bool,
+    wanted: &[&str],
+) -> usize {
+    let mut lines: usize = 0;
+    for read in session.iter(input, pauses, prompt, bindings) {
+        let is_so = is_wanted(wanted.get(lines).copied(), &read);
+        holds(rt, is_so, prompt.1, lines);
+        lines = lines.saturating_add(1);
+    }
+    lines
+}
+
+/// Whether no line has begun, and prompts were without style.
+fn has_ended(desk: &Desk) -> bool {
+    let written = desk.written();
+    let is_plain = written.contains("> ") && !written.contains(STYLED);
+    is_plain && desk.line().is_none()
+}
+
+/// Reads the lines of the input of a row.
+fn reads(rt: &impl Abort, desk: &mut Desk, input: &mut Pieces, row: &Row) {
+    let lines = reads_all(
+        rt,
+        &mut desk.session,
+        &desk.bindings,
+        input,
+        &("> ", row.1),
+        row.3,
+        row.6,
+    );
+    let are_all = lines == row.6.len();
+    holds(rt, are_all && has_ended(desk), row.1, lines);
+    holds(rt, input.reads == row.5, row.1, input.reads);
+}
+
 #[test]
 fn reads_lines_of_an_input(rt: HostRuntime) {
-    let bindings = bindings(rt.alloc()).expect(&rt, "bindings");
-    for (how, styled, failing, pauses, pieces, reads, wanted) in READ {
-        let output = ("output", *failing);
-        let mut session = new_session(rt.alloc(), how, "", output).expect(&rt, "a session");
-        let mut input = Pieces { pieces, reads: 0 };
-        let mut lines: usize = 0;
-        for read in session.iter(&mut input, *pauses, &("> ", *styled), &bindings) {
-            let is_so = match (wanted.get(lines), read) {
-                (Some(line), Ok(read)) => *line == read.as_str(),
-                (Some(line), Err(ReadlineError::Interrupted)) => *line == "×",
-                (Some(line), Err(ReadlineError::Io(_))) => *line == "!",
-                _ => false,
-            };
-            holds(&rt, is_so, styled, lines);
-            lines = lines.saturating_add(1);
-        }
-        let has_ended = lines == wanted.len() && session.line().is_none();
-        let written = session.out().written();
-        let is_plain = written.contains("> ") && !written.contains(STYLED);
-        holds(&rt, has_ended && is_plain, styled, lines);
-        holds(&rt, input.reads == *reads, styled, input.reads);
+    for row in READ {
+        let failing = ("output", row.2);
+        let mut desk = Desk::new(rt.alloc(), row.0, "", failing).expect(&rt, "a session");
+        let mut input = Pieces {
+            pieces: row.4,
+            reads: 0,
+        };
+        reads(&rt, &mut desk, &mut input, row);
     }
 }
 
 /// Prompts, plain and styled, and how the line `abc` is shown after each.
 const PROMPTS: &[(&str, &str)] = &[("> ", "> abc"), (STYLED, "\x1b[1m> \x1b[0m\x0fabc")];
 
+/// Writes to another output from now on, and draws the line there unless it has only begun. Returns
+/// the one before.
+fn exchanged(alloc: Global, desk: &mut Desk, keys: &str) -> Result<Counted> {
+    let other = Counted::new(alloc, usize::MAX, 0, &GONE)?;
+    Ok(if keys == "ab" {
+        desk.session.exchange_out(other)
+    } else {
+        desk.session.replace_out(other)
+    })
+}
+
+/// Types keys. Returns whether this is shown then, and the prompt unless the output was emptied.
+fn shows(desk: &mut Desk, keys: &str, shown: &str, prompt: &str) -> bool {
+    let is_fed = desk.take(keys, 9).is_ok();
+    let written = desk.written();
+    is_fed && written.contains(shown) && written.contains(prompt) == (keys != "c")
+}
+
+/// Types keys, and then changes the output. The one before shows this.
+fn draws(rt: &impl Abort, alloc: Global, desk: &mut Desk, keys: &str, shown: &str, prompt: &str) {
+    let is_drawn = shows(desk, keys, shown, prompt);
+    let has_left = keys != "…" || desk.session.abandon().is_ok();
+    holds(rt, has_left, "the line is dropped", 0);
+    let before = exchanged(alloc, desk, keys).expect(rt, "room");
+    holds(rt, is_drawn && before.written().contains(shown), shown, 0);
+}
+
+/// Types a line after a prompt, with outputs that are changed.
+fn draws_anew(rt: &impl Abort, alloc: Global, desk: &mut Desk, prompt: &str, line: &str) {
+    let has_begun = desk.session.begin(&("> ", prompt), &desk.bindings).is_ok();
+    holds(rt, has_begun, "a line begins", 0);
+    draws(rt, alloc, desk, "ab", prompt, prompt);
+    draws(rt, alloc, desk, "c", "c", prompt);
+    draws(rt, alloc, desk, "…", line, prompt);
+}
+
 /// A line is drawn whole on its first output; what is typed then, on one that was emptied; and the
 /// line anew on another one, which is given back after it.
 #[test]
 fn draws_anew_on_another_output(rt: HostRuntime) {
-    let bindings = bindings(rt.alloc()).expect(&rt, "bindings");
     for (prompt, line) in PROMPTS {
-        let mut session = new_session(rt.alloc(), SEARCH, "", NOBODY).expect(&rt, "a session");
-        let has_begun = session.begin(&("> ", *prompt), &bindings).is_ok();
-        for (keys, shown) in [("ab", *prompt), ("c", "c"), ("…", *line)] {
-            let is_fed = has_begun && done(&mut session, keys, 9, &bindings).is_ok();
-            let written = session.out().written();
-            let has_prompt = written.contains(*prompt);
-            let is_drawn = is_fed && written.contains(shown) && has_prompt == (keys != "c");
-            let other = Counted::new(rt.alloc(), usize::MAX, 0, GONE).expect(&rt, "room");
-            let before = if keys == "ab" {
-                session.exchange_out(other)
-            } else {
-                let has_left = keys == "c" || session.abandon().is_ok();
-                holds(&rt, has_left, "the line is dropped", 0);
-                session.replace_out(other)
-            };
-            holds(&rt, is_drawn && before.written().contains(shown), shown, 0);
-        }
+        let mut desk = Desk::new(rt.alloc(), SEARCH, "", NOBODY).expect(&rt, "a session");
+        draws_anew(&rt, rt.alloc(), &mut desk, prompt, line);
     }
 }

@@ -1,12 +1,11 @@
 //! Bytes that are made from a number: in one piece they come to what they come to one by one, and
 //! no character is typed that is not in them as text.
 
-use crate::by_bytes::{EACH, feeds};
+use crate::by_bytes::{EACH, Ear, feeds};
 use crate::holds;
 use line_config::Result;
 use line_keys::raw_reader::RawReader;
 use line_screen::KeyQueue;
-use line_term::Decoder;
 use std::alloc::Global;
 
 /// A number below this one. Numbers look mixed, each made of the last one by a linear congruence,
@@ -96,25 +95,41 @@ fn made(alloc: Global, last: &mut usize, making: &Making) -> Result<String> {
     Ok(bytes)
 }
 
+/// Whether the next pasted texts of two queues are the same.
+fn paste_the_same(one: &mut KeyQueue, other: &mut KeyQueue) -> bool {
+    match (one.read_pasted_text(), other.read_pasted_text()) {
+        (Ok(one), Ok(other)) => one.as_str() == other.as_str(),
+        _ => false,
+    }
+}
+
+/// Whether the next keys or pasted texts of two queues are the same.
+fn give_the_same(one: &mut KeyQueue, other: &mut KeyQueue) -> bool {
+    match (one.next_key(false), other.next_key(false)) {
+        (Ok(one), Ok(other)) => one == other,
+        _ => paste_the_same(one, other),
+    }
+}
+
+/// Whether two queues have the same keys and pasted texts.
+fn have_the_same(one: &mut KeyQueue, other: &mut KeyQueue) -> bool {
+    for _ in 0..one.len() {
+        if !give_the_same(one, other) {
+            return false;
+        }
+    }
+    one.is_empty() && other.is_empty()
+}
+
 /// Whether bytes come to the same in one piece and one by one, and to nothing where they are not to
 /// stand for something.
 fn come_to_the_same(alloc: Global, bytes: &str, can_stand: bool) -> bool {
-    let (mut whole, mut single) = (Decoder::new(alloc), Decoder::new(alloc));
-    let (mut of_whole, mut of_single) = (KeyQueue::new(alloc), KeyQueue::new(alloc));
-    let mut is_same = feeds(alloc, &mut whole, &mut of_whole, bytes, 0)
-        && feeds(alloc, &mut single, &mut of_single, bytes, EACH)
-        && (can_stand || of_whole.is_empty());
-    for _ in 0..of_whole.len() {
-        let is_next = match (of_whole.next_key(false), of_single.next_key(false)) {
-            (Ok(one), Ok(other)) => one == other,
-            _ => match (of_whole.read_pasted_text(), of_single.read_pasted_text()) {
-                (Ok(one), Ok(other)) => one.as_str() == other.as_str(),
-                _ => false,
-            },
-        };
-        is_same = is_same && is_next;
-    }
-    is_same && of_whole.is_empty() && of_single.is_empty()
+    let mut whole = Ear::new(alloc);
+    let mut single = Ear::new(alloc);
+    feeds(alloc, &mut whole, bytes, 0)
+        && feeds(alloc, &mut single, bytes, EACH)
+        && (can_stand || whole.keys.is_empty())
+        && have_the_same(&mut whole.keys, &mut single.keys)
 }
 
 #[test]

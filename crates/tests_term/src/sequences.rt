@@ -2,13 +2,12 @@
 //! each terminal, and those of other protocols; each whole, cut at each place, and the keys after
 //! an Esc. Texts, too.
 
-use crate::by_bytes::first_wrong;
+use crate::by_bytes::{Ear, first_wrong};
 use crate::holds;
 use crate::texts::{BY_A_HUNDRED, BY_FOUR, BY_NONE, BY_ONE, BY_THREE, PASTED, TYPED};
 use line_keys::keys::Modifiers;
-use line_screen::KeyQueue;
-use line_term::Decoder;
 use line_term::decoder::PASTE_BOUND;
+use std::alloc::Global;
 
 /// Bytes, and the names of what they come to.
 pub(crate) type Rows = &'static [(&'static str, &'static str)];
@@ -375,6 +374,20 @@ const PAUSED: Rows = &[
     ("\u{e6}\u{97}…\u{a5}x", "\u{fffd} \u{fffd} x"),
 ];
 
+/// Where a row is wrong first, also behind an Esc if one can stand in front, which is Alt then.
+fn wrong_in_row(
+    alloc: Global,
+    bound: usize,
+    are_keys: bool,
+    (bytes, names): (&str, &str),
+) -> Option<usize> {
+    let wrong = first_wrong(alloc, (bound, "", Modifiers::NONE), bytes, names);
+    if wrong.is_some() || !are_keys {
+        return wrong;
+    }
+    first_wrong(alloc, (bound, "\x1b", Modifiers::ALT), bytes, names)
+}
+
 /// Each row comes to its names; and the keys to those with Alt, where an Esc stands in front.
 #[test]
 fn come_to_keys_and_texts(rt: HostRuntime) {
@@ -392,14 +405,9 @@ fn come_to_keys_and_texts(rt: HostRuntime) {
         (0, false, BY_NONE),
         (1, false, BY_ONE),
     ] {
-        for (bytes, names) in rows {
-            let plainly = (bound, "", Modifiers::NONE);
-            let mut wrong = first_wrong(rt.alloc(), plainly, bytes, names);
-            if are_keys && wrong.is_none() {
-                let with_alt = (bound, "\x1b", Modifiers::ALT);
-                wrong = first_wrong(rt.alloc(), with_alt, bytes, names);
-            }
-            holds(&rt, wrong.is_none(), names, wrong.unwrap_or(0));
+        for row in rows {
+            let wrong = wrong_in_row(rt.alloc(), bound, are_keys, *row);
+            holds(&rt, wrong.is_none(), row.1, wrong.unwrap_or(0));
         }
     }
 }
@@ -417,17 +425,20 @@ const SIZES: &[(&str, u16, u16)] = &[
     ("\x1b[?8;24;80t", 0, 0),
 ];
 
+/// Whether bytes report a size of these rows and columns, and come to nothing else.
+fn report(ear: &mut Ear, bytes: &str, rows: u16, columns: u16) -> bool {
+    let is_fed = ear.reads(bytes.as_bytes()) && ear.keys.is_empty();
+    let is_so = match ear.decoder.take_size() {
+        Some(size) => rows > 0 && (size.rows, size.columns) == (rows, columns),
+        None => rows == 0,
+    };
+    is_fed && is_so && ear.decoder.take_size().is_none()
+}
+
 #[test]
 fn report_sizes(rt: HostRuntime) {
     for (bytes, rows, columns) in SIZES {
-        let mut decoder = Decoder::new(rt.alloc());
-        let mut keys = KeyQueue::new(rt.alloc());
-        let is_fed = decoder.feed(bytes.as_bytes(), &mut keys).is_ok() && keys.is_empty();
-        let is_so = match decoder.take_size() {
-            Some(size) => *rows > 0 && (size.rows, size.columns) == (*rows, *columns),
-            None => *rows == 0,
-        };
-        let is_taken = decoder.take_size().is_none();
-        holds(&rt, is_fed && is_so && is_taken, bytes, 0);
+        let mut ear = Ear::new(rt.alloc());
+        holds(&rt, report(&mut ear, bytes, *rows, *columns), bytes, 0);
     }
 }

@@ -4,23 +4,40 @@ use crate::holds;
 use crate::parties::{Failing, NOBODY, Party, failing_call};
 use crate::terminal::Counted;
 use line_buffer::GraphemeClusterMode;
-use line_config::{ColorMode, CompletionType, Config, EditMode, Result};
+use line_config::{ColorMode, CompletionType, Config, Configurer, EditMode, Result};
 use line_editor::{Bindings, Event, EventHandler};
 use line_keys::cmd::Cmd;
 use line_keys::keys::KeyEvent;
-use line_parts::{History, Parts};
+use line_parts::{Helper, History, Parts};
 use line_session::editor::{Editor, Fed, Heard};
 use std::alloc::Global;
+use std::io::Write;
 use std::process::Abort;
 use tests_parties::fault::GONE;
 use tests_parties::guide::Guide;
 use tests_parties::shelf::Shelf;
 
-/// The helper of a session: it completes words, hints nothing, shows no colors and takes each line.
-type Helper = Parts<Party, Guide, Party, Guide>;
+/// Those who help in a session: they complete words, hint nothing, show no colors and take each
+/// line.
+type Helpers = Parts<Party, Guide, Party, Guide>;
 
-/// A session in which those who are asked can fail.
-pub(crate) type Session = Editor<Counted, Helper, Shelf>;
+/// Where a line is typed: a session in which those who are asked can fail, the bindings of its
+/// keys, and how its line stands.
+pub(crate) struct Desk {
+    pub(crate) session: Editor<Counted, Helpers, Shelf>,
+    pub(crate) bindings: Bindings,
+    fed: Fed,
+}
+
+impl Drop for Desk {
+    fn drop(self) {
+        let Desk {
+            session: _,
+            bindings: _,
+            fed: _,
+        } = self;
+    }
+}
 
 /// What is tried, the words or the lines of the history, what is typed, what comes of it, and what
 /// is written to the terminal on the way.
@@ -89,54 +106,77 @@ const SUSPENDED: &str = "‖";
 pub(crate) const CURSOR: char = '|';
 
 /// How many bytes are fed at once: all, or so many.
-const PIECES: [usize; 3] = [usize::MAX, 1, 3];
+const PIECES: &[usize] = &[usize::MAX, 1, 3];
 
 /// Bindings of C-z, which suspends.
-pub(crate) fn bindings(alloc: Global) -> Result<Bindings> {
+fn bindings(alloc: Global) -> Result<Bindings> {
     let mut bindings = Bindings::new(alloc);
     let key = Event::from_key(alloc, KeyEvent::ctrl('Z'))?;
     bindings.insert(key, EventHandler::from(Cmd::Suspend))?;
     Ok(bindings)
 }
 
-/// Those who are asked: the completer has the words of a text, or the history its lines.
-fn asked(alloc: Global, completes: bool, text: &str, failing: Failing) -> Result<(Helper, Shelf)> {
-    let mut completer = Party::new(alloc, failing_call(failing, "completer"));
-    let mut history = Shelf::new(alloc, 0);
-    for part in text.split(if completes { ' ' } else { '|' }) {
-        if completes {
-            completer.words.words.push(String::from_str(alloc, part)?)?;
-        } else {
-            history.add(part)?;
-        }
-    }
-    history.fail_by(failing_call(failing, "history"), GONE);
+/// Those who help, of whose calls one can fail.
+fn helpers(alloc: Global, failing: Failing) -> Helpers {
     let (mut hinter, mut validator) = (Guide::new(false, false), Guide::new(false, false));
     hinter.fail_by(failing_call(failing, "hinter"), GONE);
     validator.fail_by(failing_call(failing, "validator"), GONE);
-    let helper = Parts {
-        completer,
+    Parts {
+        completer: Party::new(alloc, failing_call(failing, "completer")),
         hinter,
         highlighter: Party::new(alloc, failing_call(failing, "highlighter")),
         validator,
-    };
-    Ok((helper, history))
+    }
 }
 
-/// A session on a screen of 20 columns and 5 rows.
-pub(crate) fn new_session(
+/// Gives the completer a word, or the history a line.
+fn give(
+    alloc: Global,
+    completes: bool,
+    part: &str,
+    completer: &mut Party,
+    history: &mut Shelf,
+) -> Result<()> {
+    if completes {
+        completer.words.words.push(String::from_str(alloc, part)?)?;
+    } else {
+        history.add(part)?;
+    }
+    Ok(())
+}
+
+/// Gives the completer the words of a text, or the history its lines.
+fn give_all(
     alloc: Global,
     how: &str,
     text: &str,
-    failing: Failing,
-) -> Result<Session> {
+    completer: &mut Party,
+    history: &mut Shelf,
+) -> Result<()> {
+    let completes = how.starts_with("list") || how.starts_with("round");
+    for part in text.split(if completes { ' ' } else { '|' }) {
+        give(alloc, completes, part, completer, history)?;
+    }
+    Ok(())
+}
+
+/// Those who are asked: the completer has the words of a text, or the history its lines.
+fn asked(alloc: Global, how: &str, text: &str, failing: Failing) -> Result<(Helpers, Shelf)> {
+    let mut history = Shelf::new(alloc, 0);
+    let mut helpers = helpers(alloc, failing);
+    give_all(alloc, how, text, &mut helpers.completer, &mut history)?;
+    history.fail_by(failing_call(failing, "history"), GONE);
+    Ok((helpers, history))
+}
+
+/// The settings of a session.
+fn settings(how: &str) -> Config {
     let edit_mode = if how.ends_with("vi") {
         EditMode::Vi
     } else {
         EditMode::Emacs
     };
-    let lists = how.starts_with("list");
-    let completion_type = if lists {
+    let completion_type = if how.starts_with("list") {
         CompletionType::List
     } else {
         CompletionType::Circular
@@ -146,88 +186,142 @@ pub(crate) fn new_session(
     } else {
         ColorMode::Enabled
     };
-    let config = Config::builder(GraphemeClusterMode::Unicode)
-        .edit_mode(edit_mode)
-        .completion_type(completion_type)
-        .completion_prompt_limit(if how.contains("ask") { 1 } else { 100 })
-        .completion_show_all_if_ambiguous(how.ends_with("at once"))
-        .auto_add_history(how.starts_with("add"))
-        .color_mode(color_mode)
-        .build();
-    let completes = lists || how.starts_with("round");
-    let out = Counted::new(alloc, usize::MAX, failing_call(failing, "output"), GONE)?;
-    let (helper, history) = asked(alloc, completes, text, failing)?;
-    let mut session = Editor::new(alloc, config, out, 20, helper, history);
+    let limit = if how.contains("ask") { 1 } else { 100 };
+    let mut config = Config::new(GraphemeClusterMode::Unicode);
+    config.set_edit_mode(edit_mode);
+    config.set_completion_type(completion_type);
+    config.set_completion_prompt_limit(limit);
+    config.set_completion_show_all_if_ambiguous(how.ends_with("at once"));
+    config.set_auto_add_history(how.starts_with("add"));
+    config.set_color_mode(color_mode);
+    config
+}
+
+/// A session on a screen of 20 columns and 5 rows.
+fn session<O: Write + Drop, H: Helper + Drop, S: History + Drop>(
+    alloc: Global,
+    how: &str,
+    out: O,
+    (helpers, history): (H, S),
+) -> Editor<O, H, S> {
+    let mut session = Editor::new(alloc, settings(how), out, 20, helpers, history);
     let _ = session.resize(20, 5);
-    Ok(session)
+    session
 }
 
-/// Does a step. What is fed goes in by pieces of at most this length.
-pub(crate) fn done(
-    session: &mut Session,
-    step: &str,
-    piece: usize,
-    bindings: &Bindings,
-) -> Result<Fed> {
-    if let Some(texts) = step.strip_prefix(BEGIN) {
-        let texts = texts.split_once(CURSOR).unwrap_or(("", ""));
-        return session.begin_with(&"> ", texts, bindings);
+impl Desk {
+    /// A desk with a session on a screen of 20 columns and 5 rows.
+    pub(crate) fn new(alloc: Global, how: &str, text: &str, failing: Failing) -> Result<Desk> {
+        let bindings = bindings(alloc)?;
+        let out = Counted::new(alloc, usize::MAX, failing_call(failing, "output"), &GONE)?;
+        Ok(Desk {
+            session: session(alloc, how, out, asked(alloc, how, text, failing)?),
+            bindings,
+            fed: Fed::More,
+        })
     }
-    if let Some(columns) = step.strip_prefix(SIZE) {
-        let columns: u16 = columns.parse().unwrap_or(20);
-        session.resize(columns.max(1), 5)?;
-        return Ok(Fed::More);
-    }
-    let is_typed = step != PAUSE && step != END;
-    let piece = if is_typed { piece.max(1) } else { usize::MAX };
-    let mut fed = Fed::More;
-    for bytes in step.as_bytes().chunks(piece) {
-        let heard = match step {
-            PAUSE => Heard::Pause,
-            END => Heard::End,
-            _ => Heard::Bytes(bytes),
-        };
-        fed = session.hear(heard, bindings)?;
-    }
-    Ok(fed)
-}
 
-/// The line with its cursor, and nothing where none goes on.
-pub(crate) fn marked(alloc: Global, session: &Session) -> Result<String> {
-    let line = session.line().unwrap_or("");
-    match session.pos() {
-        Some(pos) => {
-            let (before, behind) = line.split_at_checked(pos).unwrap_or(("", ""));
-            Ok(format!(in alloc; "{before}{CURSOR}{behind}")?)
+    /// Begins a line with these texts before and after the cursor.
+    fn begin(&mut self, texts: (&str, &str)) -> Result<()> {
+        self.fed = self.session.begin_with(&"> ", texts, &self.bindings)?;
+        Ok(())
+    }
+
+    /// Hears something of the terminal.
+    fn hear(&mut self, heard: Heard<'_>) -> Result<()> {
+        self.fed = self.session.hear(heard, &self.bindings)?;
+        Ok(())
+    }
+
+    /// Feeds a step by pieces of at most this length.
+    fn feed(&mut self, step: &str, piece: usize) -> Result<()> {
+        for bytes in step.as_bytes().chunks(piece.max(1)) {
+            self.hear(Heard::Bytes(bytes))?;
         }
-        None => Ok(String::new(alloc)),
+        Ok(())
     }
+
+    /// Does a step. What is fed goes in by pieces of at most this length.
+    pub(crate) fn take(&mut self, step: &str, piece: usize) -> Result<()> {
+        self.fed = Fed::More;
+        if let Some(texts) = step.strip_prefix(BEGIN) {
+            return self.begin(texts.split_once(CURSOR).unwrap_or(("", "")));
+        }
+        if let Some(columns) = step.strip_prefix(SIZE) {
+            let columns: u16 = columns.parse().unwrap_or(20);
+            return self.session.resize(columns.max(1), 5);
+        }
+        match step {
+            PAUSE => self.hear(Heard::Pause),
+            END => self.hear(Heard::End),
+            _ => self.feed(step, piece),
+        }
+    }
+
+    /// The line that goes on, if one does.
+    pub(crate) fn line(&self) -> Option<&str> {
+        self.session.line()
+    }
+
+    /// The history.
+    pub(crate) fn history(&self) -> &Shelf {
+        self.session.history()
+    }
+
+    /// What was written, if it is text.
+    pub(crate) fn written(&self) -> &str {
+        self.session.out().written()
+    }
+
+    /// The line with its cursor, and nothing where none goes on.
+    pub(crate) fn marked(&self, alloc: Global) -> Result<String> {
+        let Some(pos) = self.session.pos() else {
+            return Ok(String::new(alloc));
+        };
+        let line = self.line().unwrap_or("");
+        let (before, behind) = line.split_at_checked(pos).unwrap_or(("", ""));
+        Ok(format!(in alloc; "{before}{CURSOR}{behind}")?)
+    }
+
+    /// How the line stands, and the text of one that was submitted.
+    fn outcome(&self) -> (&'static str, &str) {
+        match &self.fed {
+            Fed::Submitted(text) => (SUBMITTED, text.as_str()),
+            Fed::Ended => (ENDED, ""),
+            Fed::Interrupted => (INTERRUPTED, ""),
+            Fed::More if self.session.is_suspended() => (SUSPENDED, ""),
+            Fed::More => ("", ""),
+        }
+    }
+}
+
+/// Whether this has come of what was typed, and this was written on the way.
+fn has_come(alloc: Global, desk: &Desk, wanted: &str, written: &str) -> Result<bool> {
+    let line = desk.marked(alloc)?;
+    let (mark, text) = desk.outcome();
+    let came = format!(in alloc; "{mark}{text}{line}")?;
+    Ok(came.as_str() == wanted && desk.written().contains(written))
+}
+
+/// Does steps, with the bytes of each by pieces of at most this length.
+fn take_all(desk: &mut Desk, keys: &str, piece: usize) -> Result<()> {
+    for step in keys.split(CUT) {
+        desk.take(step, piece)?;
+    }
+    Ok(())
+}
+
+/// Does what a case says by pieces of at most this length. Returns whether it comes true.
+fn comes_by(alloc: Global, case: &Case, piece: usize) -> Result<bool> {
+    let mut desk = Desk::new(alloc, case.0, case.1, NOBODY)?;
+    take_all(&mut desk, case.2, piece)?;
+    has_come(alloc, &desk, case.3, case.4)
 }
 
 /// Does what a case says, with the bytes of a step whole and in pieces.
 pub(crate) fn comes_true(rt: &impl Abort, alloc: Global, case: &Case) {
-    let (how, text, keys, wanted, written) = *case;
     for piece in PIECES {
-        let bindings = bindings(alloc).expect(rt, "bindings");
-        let mut session = new_session(alloc, how, text, NOBODY).expect(rt, "a session");
-        let mut fed = Fed::More;
-        for step in keys.split(CUT) {
-            fed = done(&mut session, step, piece, &bindings).expect(rt, "no fault");
-        }
-        let line = marked(alloc, &session).expect(rt, "memory");
-        let mark = match &fed {
-            Fed::Submitted(_) => SUBMITTED,
-            Fed::Ended => ENDED,
-            Fed::Interrupted => INTERRUPTED,
-            Fed::More if session.is_suspended() => SUSPENDED,
-            Fed::More => "",
-        };
-        let text = match fed {
-            Fed::Submitted(text) => text,
-            _ => String::new(alloc),
-        };
-        let came = format!(in alloc; "{mark}{text}{line}").expect(rt, "memory");
-        let is_so = came.as_str() == wanted && session.out().written().contains(written);
-        holds(rt, is_so, keys, piece);
+        let is_so = comes_by(alloc, case, *piece).expect(rt, "no fault");
+        holds(rt, is_so, case.2, *piece);
     }
 }

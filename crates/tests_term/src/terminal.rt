@@ -4,13 +4,14 @@ use crate::holds;
 use crate::parties::{Failing, NOBODY, Party, failing_call};
 use line_buffer::{GraphemeClusterMode, Layout, LineBuffer, Position};
 use line_config::{ReadlineError, Result};
+use line_keys::raw_reader::RawReader;
 use line_parts::{CmdKind, DimHints, Highlighter, SteadyHighlighter};
 use line_screen::KeyQueue;
 use line_state::{Renderer, Resizable};
 use line_term::Ansi;
 use std::alloc::Global;
 use std::io::{self, ErrorKind, Write};
-use tests_parties::fault::{Fault, GONE};
+use tests_parties::fault::Fault;
 
 /// An output that counts what it is asked for. It takes at most so many bytes at once. Its write of
 /// this number, from 1 on, fails; or each flush, where the number is the greatest.
@@ -21,7 +22,7 @@ pub(crate) struct Counted {
     flushes: u64,
     most: usize,
     failing: u64,
-    fault: Fault,
+    fault: &'static Fault,
 }
 
 impl Drop for Counted {
@@ -40,7 +41,12 @@ impl Drop for Counted {
 impl Counted {
     /// An output that takes so many bytes at once, and whose write of this number fails by this
     /// fault. It has memory for what a session writes.
-    pub(crate) fn new(alloc: Global, most: usize, failing: u64, fault: Fault) -> Result<Counted> {
+    pub(crate) fn new(
+        alloc: Global,
+        most: usize,
+        failing: u64,
+        fault: &'static Fault,
+    ) -> Result<Counted> {
         Ok(Counted {
             bytes: Vec::with_capacity(alloc, 10_000)?,
             writes: 0,
@@ -77,25 +83,52 @@ impl Write for Counted {
     }
 }
 
-type Terminal = Ansi<Counted, KeyQueue>;
-
-/// Draws a line in full after a prompt with these styles, with a hint behind it. The cursor is at
-/// the start, or at the end.
-fn redraw<H: SteadyHighlighter>(
-    alloc: Global,
-    terminal: &mut Terminal,
-    (text, at_start): (&str, bool),
+/// Draws a line in full after a prompt with these styles, with a hint behind it.
+fn redraw<R: Renderer, H: SteadyHighlighter>(
+    terminal: &mut R,
+    line: &LineBuffer,
     styled: &str,
     highlighter: &H,
+) -> Result<()> {
+    let begin = terminal.calculate_position("> ", Position { row: 0, col: 0 });
+    let layout = terminal.compute_layout(begin, true, line, Some("c"));
+    let prompt = ("> ", styled);
+    terminal.refresh_line(&prompt, line, Some("c"), None, &layout, Some(highlighter))
+}
+
+/// Draws a line with the cursor at its end. The call of this number to the highlighter fails.
+fn redraw_plain<R: Renderer>(
+    alloc: Global,
+    terminal: &mut R,
+    text: &str,
+    failing: u64,
+) -> Result<()> {
+    let line = LineBuffer::init(alloc, text, text.len())?;
+    let highlighter = Party::new(alloc, failing);
+    redraw(terminal, &line, "> ", &highlighter)
+}
+
+/// Draws a line in colors, with the cursor at its start or its end.
+fn redraw_lit<R: Renderer>(
+    alloc: Global,
+    terminal: &mut R,
+    text: &str,
+    at_start: bool,
 ) -> Result<()> {
     let mut line = LineBuffer::init(alloc, text, text.len())?;
     if at_start {
         line.move_buffer_start();
     }
-    let begin = terminal.calculate_position("> ", Position { row: 0, col: 0 });
-    let layout = terminal.compute_layout(begin, true, &line, Some("c"));
-    let prompt = ("> ", styled);
-    terminal.refresh_line(&prompt, &line, Some("c"), None, &layout, Some(highlighter))
+    let mut highlighter = DimHints::new(at_start);
+    let _ = highlighter.highlight_char(text, 0, CmdKind::Other);
+    redraw(terminal, &line, "\x1b[1m> ", &highlighter)
+}
+
+/// Clears the rows of a line with the cursor in the third one.
+fn clear_rows<R: Renderer>(terminal: &mut R) -> Result<()> {
+    let mut layout = Layout::new(GraphemeClusterMode::Unicode);
+    layout.cursor = Position { row: 2, col: 1 };
+    terminal.clear_rows(&layout)
 }
 
 /// A text of many bytes.
@@ -143,7 +176,7 @@ const CALLS: &[Call] = &[
 
 /// Resizes a terminal of ten columns. Returns whether it had them, and has the columns and rows of
 /// the resize then.
-fn is_resized(terminal: &mut Terminal) -> bool {
+fn is_resized<R: Resizable>(terminal: &mut R) -> bool {
     let had_ten = terminal.get_columns() == 10 && terminal.get_rows() == 24;
     terminal.resize(3, 7);
     let end = terminal.calculate_position("abcd", Position { row: 0, col: 0 });
@@ -151,73 +184,116 @@ fn is_resized(terminal: &mut Terminal) -> bool {
     had_ten && columns == 3 && rows == 7 && end == (Position { row: 1, col: 1 })
 }
 
-/// Makes a call. The highlighter of `refresh_line` can fail.
-fn call(
+/// Makes a call. That of this number to the highlighter of `refresh_line` fails.
+fn call<O: Write + Drop, K: RawReader>(
     alloc: Global,
-    terminal: &mut Terminal,
-    (name, text, _): Call,
-    failing: Failing,
+    terminal: &mut Ansi<O, K>,
+    name: &str,
+    text: &str,
+    failing: u64,
 ) -> Result<()> {
-    let start = Position { row: 0, col: 0 };
     match name {
         "beep" => terminal.beep(),
-        "move_cursor" => terminal.move_cursor(start, Position { row: 1, col: 2 }),
+        "move_cursor" => {
+            terminal.move_cursor(Position { row: 0, col: 0 }, Position { row: 1, col: 2 })
+        }
         "write_and_flush" => terminal.write_and_flush(text),
         "clear_to_eol" => terminal.clear_to_eol(),
         "clear_screen" => terminal.clear_screen(),
-        "clear_rows" => {
-            let mut layout = Layout::new(GraphemeClusterMode::Unicode);
-            layout.cursor = Position { row: 2, col: 1 };
-            terminal.clear_rows(&layout)
-        }
+        "clear_rows" => clear_rows(terminal),
         "enable_bracketed_paste" => terminal.enable_bracketed_paste(),
         "disable_bracketed_paste" => terminal.disable_bracketed_paste(),
         "begin_synchronized_update" => terminal.begin_synchronized_update(),
         "end_synchronized_update" => terminal.end_synchronized_update(),
         "resize, beep" if is_resized(terminal) => terminal.beep(),
-        "refresh_line" => {
-            let highlighter = Party::new(alloc, failing_call(failing, "highlighter"));
-            redraw(alloc, terminal, (text, false), "> ", &highlighter)
-        }
-        "colors" | "colors of a bracket" => {
-            let is_lit = name != "colors";
-            let mut highlighter = DimHints::new(is_lit);
-            let _ = highlighter.highlight_char(text, 0, CmdKind::Other);
-            redraw(alloc, terminal, (text, is_lit), "\x1b[1m> ", &highlighter)
-        }
+        "refresh_line" => redraw_plain(alloc, terminal, text, failing),
+        "colors" => redraw_lit(alloc, terminal, text, false),
+        "colors of a bracket" => redraw_lit(alloc, terminal, text, true),
         _ => Err(ReadlineError::Eof),
     }
 }
 
-/// How a call is asked: how many bytes an output takes at once, who fails, and by an error of which
-/// kind, if it is the output.
-type How = (usize, Failing, ErrorKind);
+/// An output that cannot be written to.
+const CLOSED: &Fault = &Fault {
+    kind: ErrorKind::PermissionDenied,
+    text: "the output",
+};
+
+/// One that is to be asked again.
+const INTERRUPTED: &Fault = &Fault {
+    kind: ErrorKind::Interrupted,
+    text: "the output",
+};
+
+/// How a call is asked: how many bytes an output takes at once, who fails, and by which fault, if
+/// it is the output.
+type How = (usize, Failing, &'static Fault);
 
 /// What comes of a call: whether it is well, how often the output is asked to write, and how many
 /// bytes it takes.
 type Comes = (bool, u64, usize);
 
-/// Whether that comes of a call, on a terminal of ten columns: where it is well, the bytes are
-/// flushed once, and else it fails by that error and nothing is flushed.
-fn does(alloc: Global, asked: Call, how: How, comes: Comes) -> bool {
-    let (most, failing, kind) = how;
-    let (is_well, writes, taken) = comes;
-    let fault = Fault {
-        kind,
-        text: "the output",
-    };
+/// Makes a call on a terminal of ten columns. Returns what it answers, and the output.
+fn called<O: Write + Drop>(
+    alloc: Global,
+    out: O,
+    (name, text, _): Call,
+    failing: u64,
+) -> (Result<()>, O) {
+    let mut terminal: Ansi<O, KeyQueue> = Ansi::new(alloc, out, 10, true, true);
+    let answer = call(alloc, &mut terminal, name, text, failing);
+    (answer, terminal.into_out())
+}
+
+/// Whether an answer is well, or else this fault.
+fn is_answer(answer: &Result<()>, is_well: bool, fault: &Fault) -> bool {
+    match answer {
+        Ok(()) => is_well,
+        Err(ReadlineError::Io(error)) => !is_well && error.kind() == fault.kind,
+        Err(_) => false,
+    }
+}
+
+/// Whether an output was asked so often, took so many of these bytes, and was flushed once if that
+/// is well.
+fn has_taken(out: &Counted, bytes: &str, (is_well, writes, taken): Comes) -> bool {
+    let is_asked = out.writes == writes && out.flushes == u64::from(is_well);
+    is_asked && out.bytes.as_slice() == bytes.as_bytes().get(..taken).unwrap_or(b"")
+}
+
+/// Whether that comes of a call: where it is well, the bytes are flushed once, and else it fails by
+/// that fault and nothing is flushed.
+fn does(alloc: Global, asked: Call, (most, failing, fault): How, comes: Comes) -> bool {
     let Ok(out) = Counted::new(alloc, most, failing_call(failing, "output"), fault) else {
         return false;
     };
-    let mut terminal = Ansi::new(alloc, out, 10, true, true);
-    let is_so = match call(alloc, &mut terminal, asked, failing) {
-        Ok(()) => is_well,
-        Err(ReadlineError::Io(error)) => !is_well && error.kind() == kind,
-        Err(_) => false,
-    };
-    let out = terminal.into_out();
-    let is_asked = out.writes == writes && out.flushes == u64::from(is_well);
-    is_so && is_asked && out.bytes.as_slice() == asked.2.as_bytes().get(..taken).unwrap_or(b"")
+    let (answer, out) = called(alloc, out, asked, failing_call(failing, "highlighter"));
+    is_answer(&answer, comes.0, fault) && has_taken(&out, asked.2, comes)
+}
+
+/// Whether that comes of a call which is to come of it in the trial of this number: its bytes are
+/// taken at once, and after an interruption; they are taken one by one, and the flush fails; and a
+/// write fails, the first one in the third trial.
+fn does_in_trial(alloc: Global, asked: Call, number: u64) -> bool {
+    let whole = usize::MAX;
+    let len = asked.2.len();
+    let count = len as u64;
+    let (next, taken) = (number.saturating_sub(2), number.saturating_sub(3));
+    match number {
+        0 => does(alloc, asked, (whole, NOBODY, CLOSED), (true, 1, len)),
+        1 => {
+            let how = (whole, ("output", 1), INTERRUPTED);
+            does(alloc, asked, how, (true, 2, len))
+        }
+        2 => {
+            let how = (1, ("output", u64::MAX), CLOSED);
+            does(alloc, asked, how, (false, count, len))
+        }
+        _ => {
+            let comes = (taken == count, next.min(count), taken as usize);
+            does(alloc, asked, (1, ("output", next), CLOSED), comes)
+        }
+    }
 }
 
 /// Each call writes in one piece and flushes, an interrupted write is tried again, and a flush can
@@ -226,31 +302,15 @@ fn does(alloc: Global, asked: Call, how: How, comes: Comes) -> bool {
 /// the line and the hint.
 #[test]
 fn writes_and_flushes_or_hands_on_the_failure(rt: HostRuntime) {
-    let kind = ErrorKind::PermissionDenied;
-    let whole = usize::MAX;
     for asked in CALLS {
-        let len = asked.2.len();
-        let count = len as u64;
+        let count = asked.2.len() as u64;
         for number in 0..count.saturating_add(4) {
-            let (next, taken) = (number.saturating_sub(2), number.saturating_sub(3));
-            let (how, comes) = match number {
-                0 => ((whole, NOBODY, kind), (true, 1, len)),
-                1 => (
-                    (whole, ("output", 1), ErrorKind::Interrupted),
-                    (true, 2, len),
-                ),
-                2 => ((1, ("output", u64::MAX), kind), (false, count, len)),
-                _ => {
-                    let comes = (taken == count, next.min(count), taken as usize);
-                    ((1, ("output", next), kind), comes)
-                }
-            };
-            let is_so = does(rt.alloc(), *asked, how, comes);
+            let is_so = does_in_trial(rt.alloc(), *asked, number);
             holds(&rt, is_so, asked.0, number as usize);
         }
     }
-    for number in 1..=3 {
-        let how = (whole, ("highlighter", number), kind);
+    for number in 1..4 {
+        let how = (usize::MAX, ("highlighter", number), CLOSED);
         let is_so = does(rt.alloc(), ("refresh_line", "ab", ""), how, (false, 0, 0));
         holds(&rt, is_so, "highlighter", number as usize);
     }
