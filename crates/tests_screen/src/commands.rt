@@ -1,7 +1,7 @@
 //! Commands and calls of the edit state, executed one after another: where an allocation is
 //! refused, on long lines and histories, and on the last row; and what `Debug` writes.
 
-use crate::holds;
+use crate::{holds, same, sure};
 use line_buffer::{GraphemeClusterMode, KillRing, Unit};
 use line_config::{Config, Prompt, ReadlineError, Result};
 use line_editor::edit::State;
@@ -19,7 +19,8 @@ use tests_steps::recorder::{Fixed, Recorder};
 mod large;
 mod refusals;
 
-/// Commands and calls by their names, of which each ends well or ends the line.
+/// Commands and calls by their names, of which each is there, and ends well or ends the line. An
+/// error that is not the end of the line is returned.
 fn does(
     rt: &impl Abort,
     alloc: Global,
@@ -30,22 +31,13 @@ fn does(
 ) -> Result<()> {
     let config = Config::new(GraphemeClusterMode::Unicode);
     for step in steps.split("; ") {
-        let outcome = executed(alloc, state, input, kills, &config, step);
-        ends_well(rt, outcome, step)?;
-    }
-    Ok(())
-}
-
-/// There is such a step. Its error, where it has one that is not the end of the line.
-fn ends_well(rt: &impl Abort, outcome: Option<Result<&'static str>>, step: &str) -> Result<()> {
-    match outcome {
-        Some(Ok(_) | Err(ReadlineError::Interrupted | ReadlineError::Eof)) => Ok(()),
-        Some(Err(error)) => Err(error),
-        None => {
-            holds(rt, false, step, 0);
-            Ok(())
+        match executed(alloc, state, input, kills, &config, step) {
+            Some(Ok(_) | Err(ReadlineError::Interrupted | ReadlineError::Eof)) => {}
+            Some(Err(error)) => return Err(error),
+            None => holds(rt, false, step, 0),
         }
     }
+    Ok(())
 }
 
 /// The line before and after its cursor, which is on a boundary.
@@ -81,11 +73,11 @@ fn prompts(alloc: Global) -> Result<(String, String)> {
 /// A history of so many lines: each is `line` and a number of four digits, the first 1000.
 fn shelved(rt: &impl Abort, alloc: Global, lines: u64) -> Shelf {
     let mut history = Shelf::new(alloc, 0);
-    history.set_max_len(5000).expect(rt, "no fault");
+    sure(rt, history.set_max_len(5000));
     for line in 0..lines {
         let number = line.saturating_add(1000);
-        let text = format!(in alloc; "line{number}").expect(rt, "no fault");
-        let _ = history.add_owned(text).expect(rt, "no fault");
+        let text = sure(rt, format!(in alloc; "line{number}"));
+        let _ = sure(rt, history.add_owned(text));
     }
     history
 }
@@ -101,26 +93,22 @@ fn on_the_last_row(rt: HostRuntime) {
     let alloc = rt.alloc();
     let mut prompt = String::new(alloc);
     for _ in 0..65535 {
-        prompt.push('\n').expect(&rt, "no fault");
+        sure(&rt, prompt.push('\n'));
     }
     for (columns, typed, calls, column) in ON_THE_LAST_ROW {
         let mut screen = Recorder::new(alloc, (*columns).max(1), false, 0);
         let history = Shelf::new(alloc, 0);
         let context = Context::new(&history);
-        let mut state: State<'_, '_, Recorder<Fixed>, Advisor, String, Shelf> = State::new(
-            alloc,
-            &mut screen,
-            &prompt,
-            None,
-            context,
-        ).expect(&rt, "no fault");
-        state.refresh_line().expect(&rt, "no fault");
+        let begun = State::new(alloc, &mut screen, &prompt, None, context);
+        let mut state: State<'_, '_, Recorder<Fixed>, Advisor, String, Shelf> = sure(&rt, begun);
+        sure(&rt, state.refresh_line());
         for c in typed.chars() {
-            state.edit_insert(c, 1).expect(&rt, "no fault");
+            sure(&rt, state.edit_insert(c, 1));
         }
         let cursor = state.layout().cursor;
-        let letters = letters(alloc, state.out().log(), 1).expect(&rt, "no fault");
-        let is_so = (cursor.row, cursor.col, letters.as_str()) == (65535, *column, *calls);
+        let letters = sure(&rt, letters(alloc, state.out().log(), 1));
+        let is_placed = cursor.row == 65535 && cursor.col == *column;
+        let is_so = is_placed && same(letters.as_str(), calls);
         holds(&rt, is_so, typed, usize::from(cursor.col));
     }
 }
@@ -131,13 +119,6 @@ const PIECES: &[&str] = &["State", "\"日本\"", "pos: 3", "history_index: 2", "
 /// An editor whose prompt is borrowed.
 type Written<'out, 'prompt> = State<'out, 'prompt, Recorder, Advisor, &'static str, Shelf>;
 
-/// What `Debug` writes of a state.
-fn written(rt: &impl Abort, alloc: Global, state: &Written<'_, '_>) -> String {
-    let mut formatter = Formatter::new(String::new(alloc));
-    assert!(rt; state.fmt(&mut formatter).is_ok());
-    formatter.into_inner()
-}
-
 #[test]
 fn is_written(rt: HostRuntime) {
     let alloc = rt.alloc();
@@ -146,16 +127,11 @@ fn is_written(rt: HostRuntime) {
     let context = Context::new(&history);
     let text = "日本";
     assert!(rt; text.is_char_boundary(3));
-    let state: Written<'_, '_> = State::with_line(
-        alloc,
-        &mut screen,
-        &"> ",
-        None,
-        context,
-        text,
-        3,
-    ).expect(&rt, "no fault");
-    let written = written(&rt, alloc, &state);
+    let begun = State::with_line(alloc, &mut screen, &"> ", None, context, text, 3);
+    let state: Written<'_, '_> = sure(&rt, begun);
+    let mut formatter = Formatter::new(String::new(alloc));
+    sure(&rt, state.fmt(&mut formatter));
+    let written = formatter.into_inner();
     for piece in PIECES {
         holds(&rt, written.as_str().contains(*piece), piece, 0);
     }

@@ -1,7 +1,7 @@
 //! The queue of keys, by what it gives.
 
-use crate::holds;
 use crate::hostile::bench::ended;
+use crate::{holds, same, sure};
 use line_config::Result;
 use line_keys::keys::{KeyCode, KeyEvent, Modifiers};
 use line_keys::raw_reader::RawReader;
@@ -279,8 +279,8 @@ fn gives_what_was_handed_over(rt: HostRuntime) {
             KeyQueue::without_bindings(rt.alloc())
         };
         for (call, wanted) in *calls {
-            let answered = answer(rt.alloc(), &mut queue, call).expect(&rt, "no fault");
-            holds(&rt, answered.as_str() == *wanted, wanted, queue.len());
+            let answered = sure(&rt, answer(rt.alloc(), &mut queue, call));
+            holds(&rt, same(answered.as_str(), wanted), wanted, queue.len());
         }
         holds(&rt, queue.failures() == *failures, "failures", calls.len());
     }

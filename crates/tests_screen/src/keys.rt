@@ -2,15 +2,13 @@
 
 use self::Made::*;
 use self::With::*;
-use crate::holds;
+use crate::{holds, same, sure};
 use bitflags::Flags;
 use line_editor::binding::{Event, EventHandler, NoHandler};
 use line_keys::cmd::Cmd;
 use line_keys::keys::{KeyCode as K, KeyEvent, Modifiers as M};
 use line_keys::refresher::Invoke;
-use std::alloc::{AllocError, Global};
 use std::collections::HashMap;
-use std::process::Abort;
 
 /// Each set of modifiers; the same with Ctrl, with Shift and without Shift.
 const SETS: &[(M, M, M, M)] = &[
@@ -177,21 +175,16 @@ const EVENTS: &[(Made, K, With)] = &[
     (Plain('q'), K::Char('q'), Only(M::NONE, M::NONE)),
 ];
 
-/// The modifiers that an event is made with, and what they become.
-fn given_and_left(with: &With, set: &(M, M, M, M)) -> (M, M) {
+/// Whether an event is made of this key, with these modifiers.
+fn is_made(made: &Made, code: K, with: &With, set: &(M, M, M, M)) -> bool {
     let (mods, and_ctrl, and_shift, not_shift) = *set;
-    match with {
+    let (given, left) = match with {
         Each => (mods, mods),
         EachAndCtrl => (mods, and_ctrl),
         EachAndShift => (mods, and_shift),
         EachNotShift => (mods, not_shift),
         Only(given, left) => (*given, *left),
-    }
-}
-
-/// Whether an event is made of this key, with these modifiers.
-fn is_made(made: &Made, code: K, with: &With, set: &(M, M, M, M)) -> bool {
-    let (given, left) = given_and_left(with, set);
+    };
     let event = match made {
         New(c) => KeyEvent::new(*c, given),
         Ctrl(c) => KeyEvent::ctrl(*c),
@@ -329,30 +322,33 @@ const COMBINED: &[Sets] = &[
     ),
 ];
 
-/// Whether two sets are combined so.
+/// Whether two sets are combined so, and one changes so where the other is put into it, taken from
+/// it and changed round.
 fn is_combined(sets: &Sets) -> bool {
     let (_, a, b, both, common, either, first, lacks) = *sets;
-    (a | b, a & b, a ^ b, a - b, !a) == (both, common, either, first, lacks)
-}
-
-/// Whether one set changes so where the other is put into it, taken from it and changed round.
-fn is_changed(sets: &Sets) -> bool {
-    let (_, a, b, both, _, _, first, _) = *sets;
+    let mut is_so = (a | b) == both;
+    is_so &= (a & b) == common;
+    is_so &= (a ^ b) == either;
+    is_so &= (a - b) == first;
+    is_so &= !a == lacks;
     let mut set = a;
     set.insert(b);
-    let inserted = set;
+    is_so &= set == both;
     set.remove(b);
-    let removed = set;
+    is_so &= set == first;
     set.toggle(both);
-    (inserted, removed, set) == (both, first, both - first)
+    is_so && set == both - first
 }
 
 /// Whether a set has these bits, and these members alone.
 fn has_members(sets: &Sets) -> bool {
     let (bits, a, b, _, common, _, _, _) = *sets;
-    let has = (a.contains(b), a.intersects(b), a.is_empty());
-    let is_made = M::from_bits(bits) == Some(a) && M::from_bits(bits | 1) == None;
-    has == (common == b, common != M::NONE, a == M::NONE) && a.bits() == bits && is_made
+    let mut is_so = a.contains(b) == (common == b);
+    is_so &= a.intersects(b) == (common != M::NONE);
+    is_so &= a.is_empty() == (a == M::NONE);
+    is_so &= a.bits() == bits;
+    is_so &= M::from_bits(bits) == Some(a);
+    is_so && M::from_bits(bits | 1).is_none()
 }
 
 /// Sets have their bits and members, and two are combined so, also where one is put into the other,
@@ -360,51 +356,44 @@ fn has_members(sets: &Sets) -> bool {
 #[test]
 fn modifiers_are_sets(rt: HostRuntime) {
     for (row, sets) in COMBINED.iter().enumerate() {
-        let is_so = is_combined(sets) && is_changed(sets) && has_members(sets);
-        holds(&rt, is_so, "sets of row", row);
+        holds(
+            &rt,
+            is_combined(sets) && has_members(sets),
+            "sets of row",
+            row,
+        );
     }
-    let retained = !M::from_bits_retain(0xf1) == M::CTRL_ALT_SHIFT && M::from_bits(16) == None;
-    let ends = (M::empty(), M::all()) == (M::NONE, M::CTRL_ALT_SHIFT);
-    holds(&rt, retained && ends, "sets by their bits", 0);
+    let mut is_so = !M::from_bits_retain(0xf1) == M::CTRL_ALT_SHIFT;
+    is_so &= M::from_bits(16).is_none();
+    is_so &= M::empty() == M::NONE;
+    is_so &= M::all() == M::CTRL_ALT_SHIFT;
+    holds(&rt, is_so, "sets by their bits", 0);
 }
 
-/// Whether equal events are one key of a map.
-fn are_keys_of_a_map(alloc: Global) -> Result<bool, AllocError> {
-    let mut commands: HashMap<KeyEvent, u8> = HashMap::new(alloc);
-    let _ = commands.insert(KeyEvent::ctrl('A'), 1)?;
-    let _ = commands.insert(KeyEvent::alt('A'), 2)?;
-    let bound = commands.get(&KeyEvent::from('\u{1}')).copied();
-    Ok(bound == Some(1) && commands.get(&KeyEvent::from('A')).is_none())
-}
-
-/// Whether the keys of an event are got by their places.
-fn is_got_by_place(rt: &impl Abort, alloc: Global) -> bool {
-    let key = KeyEvent::ctrl('x');
-    let event = Event::from_key(alloc, key).expect(rt, "no fault");
-    let is_got = event.get(0).copied() == Some(key) && event.get(1).is_none();
-    is_got && Event::Any.get(0).is_none()
-}
-
-/// What `Debug` writes of a key.
-fn is_shown(rt: &impl Abort, alloc: Global) {
-    let text = format!(in alloc; "{:?}", KeyEvent::ctrl('A')).expect(rt, "no fault");
-    let is_so = text.as_str() == "KeyEvent(Char('A'), Modifiers(8))";
-    holds(rt, is_so, text.as_str(), 0);
-}
-
-/// Whether a command becomes its own handler, and a text is what is typed.
-fn is_simple() -> bool {
-    let handler: EventHandler<NoHandler> = EventHandler::from(Cmd::Noop);
-    matches!(handler, EventHandler::Simple(Cmd::Noop)) && (&"ab").input() == "ab"
-}
-
-/// Equal events are one key of a map, what is bound to one is its handler, and the keys of an event
-/// are got by their places.
+/// Equal events are one key of a map, the keys of an event are got by their places, a command
+/// becomes its own handler, a text is what is typed, and `Debug` writes what a key is.
 #[test]
 fn of_maps_and_events(rt: HostRuntime) {
-    let are_keys = are_keys_of_a_map(rt.alloc()).expect(&rt, "no fault");
-    holds(&rt, are_keys, "a map", 0);
-    holds(&rt, is_got_by_place(&rt, rt.alloc()), "an event", 0);
-    holds(&rt, is_simple(), "a handler", 0);
-    is_shown(&rt, rt.alloc());
+    let alloc = rt.alloc();
+    let mut commands: HashMap<KeyEvent, u8> = HashMap::new(alloc);
+    let _ = sure(&rt, commands.insert(KeyEvent::ctrl('A'), 1));
+    let _ = sure(&rt, commands.insert(KeyEvent::alt('A'), 2));
+    let bound = commands.get(&KeyEvent::from('\u{1}')).copied();
+    let is_alone = commands.get(&KeyEvent::from('A')).is_none();
+    holds(&rt, bound == Some(1) && is_alone, "a map", 0);
+    let key = KeyEvent::ctrl('x');
+    let event = sure(&rt, Event::from_key(alloc, key));
+    let is_got = event.get(0).copied() == Some(key) && event.get(1).is_none();
+    holds(&rt, is_got && Event::Any.get(0).is_none(), "an event", 0);
+    let handler: EventHandler<NoHandler> = EventHandler::from(Cmd::Noop);
+    let is_simple = matches!(handler, EventHandler::Simple(Cmd::Noop));
+    holds(
+        &rt,
+        is_simple && same((&"ab").input(), "ab"),
+        "a handler",
+        0,
+    );
+    let text = sure(&rt, format!(in alloc; "{:?}", KeyEvent::ctrl('A')));
+    let is_shown = same(text.as_str(), "KeyEvent(Char('A'), Modifiers(8))");
+    holds(&rt, is_shown, text.as_str(), 0);
 }

@@ -3,6 +3,8 @@
 #![tactic(auto)]
 
 #[cfg(test)]
+use std::fmt::Debug;
+#[cfg(test)]
 use std::process::Abort;
 
 #[cfg(test)]
@@ -44,4 +46,37 @@ mod vi_phrases;
 #[cfg(test)]
 fn holds(rt: &impl Abort, is_so: bool, case: &str, number: usize) {
     assert!(rt; is_so, "{case:?} {number}");
+}
+
+/// The value; where there is none, the test fails.
+#[cfg(test)]
+fn sure<T, E: Debug + Drop>(rt: &impl Abort, outcome: Result<T, E>) -> T {
+    outcome.expect(rt, "no fault")
+}
+
+/// Whether two texts are the same.
+#[cfg(test)]
+fn same(one: &str, other: &str) -> bool {
+    one == other
+}
+
+/// Whether a text is there and the wanted one; or none, where none is wanted.
+#[cfg(test)]
+fn is(found: Option<&str>, wanted: Option<&str>) -> bool {
+    found == wanted
+}
+
+/// Whether the bytes of two texts are the same.
+#[cfg(test)]
+fn same_bytes(one: &[u8], other: &[u8]) -> bool {
+    one == other
+}
+
+/// Whether a line that is parted at its cursor is the wanted one, which has a bar there.
+#[cfg(test)]
+fn is_parted(before: &str, behind: &str, wanted: &str) -> bool {
+    match wanted.split_once('|') {
+        Some((front, rest)) => same(before, front) && same(behind, rest),
+        None => false,
+    }
 }

@@ -6,7 +6,7 @@ mod pairs;
 
 use self::Does::{Becomes, Binds, Finds, Starts};
 use self::On::{Each, Keys, Mouse};
-use crate::holds;
+use crate::{holds, sure};
 use line_config::{ReadlineError, Result};
 use line_editor::Bindings;
 use line_editor::binding::{Event, EventHandler};
@@ -156,12 +156,6 @@ fn binds(
     }
 }
 
-/// The number of an event, and whether it is or begins a bound one.
-fn finds(alloc: Global, bindings: &Bindings, on: &On) -> Result<(Option<u16>, bool)> {
-    let event = event(alloc, on)?;
-    Ok((number(bindings.get(&event)), bindings.begins(&event)))
-}
-
 /// Does a step.
 fn takes(rt: &impl Abort, alloc: Global, bindings: &mut Bindings, step: &Step) -> Result<()> {
     let (does, on, wanted, nodes) = step;
@@ -171,7 +165,10 @@ fn takes(rt: &impl Abort, alloc: Global, bindings: &mut Bindings, step: &Step) -
             wanted.is_none()
         }
         Binds(n) => binds(rt, alloc, bindings, on, *n)? == *wanted,
-        Finds(begins) => finds(alloc, bindings, on)? == (*wanted, *begins),
+        Finds(begins) => {
+            let event = event(alloc, on)?;
+            number(bindings.get(&event)) == *wanted && bindings.begins(&event) == *begins
+        }
         Becomes(normal) => is_copied(alloc, on, normal)? && wanted.is_none(),
     };
     let left = bindings.nodes();
@@ -179,29 +176,20 @@ fn takes(rt: &impl Abort, alloc: Global, bindings: &mut Bindings, step: &Step) -
     Ok(())
 }
 
-/// One of 500 keys after these others is bound to a number of its own, or then found, after so many
-/// steps.
-fn shares(i: u16, front: &'static str) -> Step {
-    let own = i % 500;
-    let (does, wanted) = if i < 500 {
-        (Binds(own), None)
-    } else {
-        (Finds(true), Some(own))
-    };
-    let nodes = front.len().saturating_add(usize::from(i.min(499)));
-    (
-        does,
-        Keys(front, usize::from(own), 1),
-        wanted,
-        nodes.saturating_add(1),
-    )
-}
-
 /// Each of the 500 keys after these others is bound to a number of its own, and then found.
 fn share_a_node(rt: &impl Abort, alloc: Global, front: &'static str) {
     let mut bindings = Bindings::new(alloc);
     for i in 0..1000u16 {
-        takes(rt, alloc, &mut bindings, &shares(i, front)).expect(rt, "no fault");
+        let own = i % 500;
+        let (does, wanted) = if i < 500 {
+            (Binds(own), None)
+        } else {
+            (Finds(true), Some(own))
+        };
+        let keys = Keys(front, usize::from(own), 1);
+        let nodes = front.len().saturating_add(usize::from(i.min(499)));
+        let step = (does, keys, wanted, nodes.saturating_add(1));
+        sure(rt, takes(rt, alloc, &mut bindings, &step));
     }
 }
 
@@ -210,7 +198,7 @@ fn share_a_node(rt: &impl Abort, alloc: Global, front: &'static str) {
 fn events_are_keys_of_a_map(rt: HostRuntime) {
     let mut bindings = Bindings::new(rt.alloc());
     for step in STEPS {
-        takes(&rt, rt.alloc(), &mut bindings, step).expect(&rt, "no fault");
+        sure(&rt, takes(&rt, rt.alloc(), &mut bindings, step));
     }
     share_a_node(&rt, rt.alloc(), "");
     share_a_node(&rt, rt.alloc(), "X");
@@ -250,29 +238,18 @@ fn are_found(rt: &impl Abort, alloc: Global, bindings: &mut Bindings, bound: Bou
     Ok(())
 }
 
-/// Binds a beginning of forty keys; where memory runs out, the map is as it was.
-fn is_bound(
-    rt: &impl Abort,
-    alloc: Global,
-    bindings: &mut Bindings,
-    binding: &Binding,
-) -> Result<()> {
-    let (len, n, before, after) = binding;
-    if *before == (0, 0) {
-        *bindings = Bindings::new(alloc);
-    }
-    let step = (Binds(*n), Keys("", 0, *len), None, *len);
-    let outcome = takes(rt, alloc, bindings, &step);
-    let bound = if outcome.is_ok() { *after } else { *before };
-    are_found(rt, alloc, bindings, bound)?;
-    outcome
-}
-
-/// Binds beginnings of forty keys one after another.
+/// Binds beginnings of forty keys one after another; where memory runs out, the map is as it was.
 fn forty(rt: &impl Abort, alloc: Global) -> Result<()> {
     let mut bindings = Bindings::new(alloc);
-    for binding in FORTY {
-        is_bound(rt, alloc, &mut bindings, binding)?;
+    for (len, n, before, after) in FORTY {
+        if before.0 == 0 && before.1 == 0 {
+            bindings = Bindings::new(alloc);
+        }
+        let step = (Binds(*n), Keys("", 0, *len), None, *len);
+        let outcome = takes(rt, alloc, &mut bindings, &step);
+        let bound = if outcome.is_ok() { *after } else { *before };
+        are_found(rt, alloc, &mut bindings, bound)?;
+        outcome?;
     }
     Ok(())
 }

@@ -1,6 +1,6 @@
 //! Where texts end on a screen.
 
-use crate::holds;
+use crate::{holds, sure};
 use line_buffer::{LineBuffer, Position, Unit};
 use line_screen::{KeyQueue, Plain, measured};
 use line_state::Renderer;
@@ -85,17 +85,17 @@ fn puts_clusters_on_rows(rt: HostRuntime) {
             col: *col,
         };
         let place = measured(*columns, text, origin);
-        let is_so = (place.row, place.col) == *end;
+        let is_so = place.row == end.0 && place.col == end.1;
         holds(&rt, is_so, text, usize::from(*columns));
     }
     for (columns, text, pos, info, cursor, end) in LAYOUTS {
         assert!(rt; *columns > 0 && text.is_char_boundary(*pos));
         let screen: Plain<KeyQueue> = Plain::new(rt.alloc(), *columns);
-        let line = LineBuffer::init(rt.alloc(), text, *pos).expect(&rt, "no fault");
+        let line = sure(&rt, LineBuffer::init(rt.alloc(), text, *pos));
         let layout = screen.compute_layout(Position { row: 0, col: 2 }, true, &line, *info);
-        let is_placed = (layout.cursor.row, layout.cursor.col) == *cursor;
-        let is_ended = (layout.end.row, layout.end.col) == *end;
-        let is_told = layout.default_prompt && layout.has_info == info.is_some();
-        holds(&rt, is_placed && is_ended && is_told, text, *pos);
+        let mut is_so = layout.cursor.row == cursor.0 && layout.cursor.col == cursor.1;
+        is_so &= layout.end.row == end.0 && layout.end.col == end.1;
+        is_so &= layout.default_prompt && layout.has_info == info.is_some();
+        holds(&rt, is_so, text, *pos);
     }
 }

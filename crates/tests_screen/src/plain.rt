@@ -1,6 +1,6 @@
 //! The screen, by what it shows.
 
-use crate::holds;
+use crate::{holds, is, same, sure};
 use line_buffer::{LineBuffer, Position, Unit};
 use line_screen::{KeyQueue, Plain};
 use line_state::Renderer;
@@ -28,7 +28,7 @@ fn called(rt: &impl Abort, alloc: Global, screen: &mut Plain<KeyQueue>, call: &C
     let answer = match call {
         Call::Draw(text, pos, prompt, hint) => {
             assert!(rt; text.is_char_boundary(*pos));
-            let line = LineBuffer::init(alloc, text, *pos).expect(rt, "no fault");
+            let line = sure(rt, LineBuffer::init(alloc, text, *pos));
             let prompt_end = screen.calculate_position(prompt, Position { row: 0, col: 0 });
             let layout = screen.compute_layout(prompt_end, true, &line, *hint);
             screen.refresh_line(prompt, &line, *hint, None, &layout, None::<&()>)
@@ -44,11 +44,11 @@ fn called(rt: &impl Abort, alloc: Global, screen: &mut Plain<KeyQueue>, call: &C
         Call::ClearToEnd => screen.clear_to_eol(),
         Call::Clear => screen.clear_screen(),
         Call::HoldBack => {
-            screen.begin_synchronized_update().expect(rt, "no fault");
+            sure(rt, screen.begin_synchronized_update());
             screen.end_synchronized_update()
         }
     };
-    answer.expect(rt, "no fault");
+    sure(rt, answer);
 }
 
 /// What a screen shows: the text, with the row and the column of its cursor, the prompt and the
@@ -99,9 +99,10 @@ fn keeps_what_it_shows(rt: HostRuntime) {
             called(&rt, rt.alloc(), &mut screen, call);
         }
         let cursor = screen.cursor();
-        let is_shown = screen.text() == *text && (cursor.row, cursor.col) == *place;
-        let is_beside = screen.prompt() == *prompt && screen.hint() == *hint;
-        let is_drawn = screen.redraws() == *redraws && screen.get_columns() == 10;
-        holds(&rt, is_shown && is_beside && is_drawn, text, calls.len());
+        let mut is_so = same(screen.text(), text);
+        is_so &= cursor.row == place.0 && cursor.col == place.1;
+        is_so &= same(screen.prompt(), prompt) && is(screen.hint(), *hint);
+        is_so &= screen.redraws() == *redraws && screen.get_columns() == 10;
+        holds(&rt, is_so, text, calls.len());
     }
 }

@@ -2,8 +2,8 @@
 
 use crate::by_keys::edit_by_keys;
 use crate::caller::type_in;
-use crate::holds;
 use crate::read_line::read_line;
+use crate::{holds, is, same, same_bytes, sure};
 use line_config::ReadlineError;
 use line_editor::State;
 use line_keys::keys::{KeyCode, KeyEvent, Modifiers};
@@ -13,17 +13,16 @@ use line_screen::{KeyQueue, Plain};
 /// A line that is typed and submitted, and a character that a caller types.
 #[test]
 fn give_what_is_typed(rt: HostRuntime) {
-    let line = read_line(rt.alloc(), "caf\u{e9}").expect(&rt, "no fault");
-    holds(&rt, line.as_str() == "caf\u{e9}", "a line", 0);
+    let line = sure(&rt, read_line(rt.alloc(), "caf\u{e9}"));
+    holds(&rt, same(line.as_str(), "caf\u{e9}"), "a line", 0);
     let mut screen: Plain<KeyQueue> = Plain::new(rt.alloc(), 80);
     let history = MemHistory::new(rt.alloc());
     let mut helper = ();
     let context = Context::new(&history);
-    let mut state = State::new(rt.alloc(), &mut screen, &"> ", Some(&mut helper), context).expect(
-        &rt, "no fault",
-    );
-    type_in(&mut state, 'x').expect(&rt, "no fault");
-    holds(&rt, state.line() == "x", "a character", 0);
+    let begun = State::new(rt.alloc(), &mut screen, &"> ", Some(&mut helper), context);
+    let mut state = sure(&rt, begun);
+    sure(&rt, type_in(&mut state, 'x'));
+    holds(&rt, same(state.line(), "x"), "a character", 0);
 }
 
 const A: KeyEvent = KeyEvent(KeyCode::Char('a'), Modifiers::NONE);
@@ -53,11 +52,11 @@ fn edit_by_each_key(rt: HostRuntime) {
         let mut terminal = Vec::new(rt.alloc());
         let outcome = edit_by_keys(rt.alloc(), keys, &mut terminal);
         let is_line = match &outcome {
-            Ok(line) => Some(line.as_str()) == *wanted,
+            Ok(line) => is(Some(line.as_str()), *wanted),
             Err(ReadlineError::Eof) => wanted.is_none(),
             Err(_) => false,
         };
-        let is_so = is_line && terminal.as_slice() == shown.as_bytes();
+        let is_so = is_line && same_bytes(terminal.as_slice(), shown.as_bytes());
         holds(&rt, is_so, shown, keys.len());
     }
 }

@@ -2,7 +2,7 @@
 
 mod script;
 
-use crate::holds;
+use crate::{holds, same, same_bytes, sure};
 use line_buffer::Position;
 use line_script::play;
 use line_script::report::{Outcome, Report};
@@ -432,9 +432,12 @@ fn plays(rt: &impl Abort, alloc: Global, case: Case, streams: Streams, at: usize
     let printed = if is_cut { 0 } else { failing.min(whole.len()) };
     let is_whole = !is_cut && printed == whole.len() && streams.flushes;
     let wanted = if is_whole { status } else { 3 };
-    let is_printed = whole.as_bytes().get(..printed) == Some(out.bytes.as_slice());
+    let is_printed = match whole.as_bytes().get(..printed) {
+        Some(begun) => same_bytes(begun, out.bytes.as_slice()),
+        None => false,
+    };
     let said = if streams.complains { said } else { "" };
-    let is_said = errors.bytes.as_slice() == said.as_bytes();
+    let is_said = same_bytes(errors.bytes.as_slice(), said.as_bytes());
     holds(rt, is_printed && is_said && ended == wanted, script, at);
 }
 
@@ -514,14 +517,14 @@ fn ends_by_a_fault_alone_where_memory_is_refused(rt: HostRuntime) {
         let mut errors = Vec::new(rt.alloc());
         let ended = play(rt.alloc(), script.as_bytes(), &mut out, &mut errors);
         let shown = str::from_utf8(&out).unwrap_or("no text");
-        let is_good = ended < 4 && !shown.starts_with("bad") && shown != "no text";
+        let is_good = ended < 4 && !shown.starts_with("bad") && !same(shown, "no text");
         let is_right = if whole.is_empty() {
             true
         } else if ended == 3 {
             let is_of_these = whole.starts_with(shown) || shown.starts_with("outcome fault\n");
             is_of_these && is_beginning(shown)
         } else {
-            (shown, ended) == (*whole, *status)
+            same(shown, whole) && ended == *status
         };
         holds(&rt, is_good && is_right, script, usize::from(ended));
     }
@@ -574,7 +577,7 @@ fn names_the_outcome_and_escapes_the_line(rt: HostRuntime) {
             redraws: 9,
         };
         let mut out = Vec::new(rt.alloc());
-        report.write_to(&mut out).expect(&rt, "no fault");
-        holds(&rt, out.as_slice() == printed.as_bytes(), line, 0);
+        sure(&rt, report.write_to(&mut out));
+        holds(&rt, same_bytes(out.as_slice(), printed.as_bytes()), line, 0);
     }
 }

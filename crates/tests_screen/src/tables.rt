@@ -3,13 +3,12 @@
 mod rows;
 
 use self::rows::{Row, TABLES};
-use crate::holds;
+use crate::{holds, same, sure};
 use line_buffer::{CharSearch, GraphemeClusterMode};
 use line_config::{Config, EditMode};
 use line_editor::Bindings;
 use line_editor::edit::State;
 use line_editor::input_state::InputState;
-use line_keys::cmd::Cmd;
 use line_keys::count::{Count, TypedCount, begins_count, continues_count};
 use line_keys::keys::{KeyCode as K, KeyEvent, Modifiers as M};
 use line_keys::refresher::InputMode;
@@ -69,7 +68,7 @@ fn typist(rt: &impl Abort, alloc: Global, digits: &str, way: &Way, key: KeyEvent
     let mut mods = M::ALT;
     for digit in digits.chars() {
         let digit = KeyEvent(K::Char(digit), mods);
-        typist.press(&[digit]).expect(rt, "no fault");
+        sure(rt, typist.press(&[digit]));
         mods = M::NONE;
     }
     let outcome = match way {
@@ -77,23 +76,8 @@ fn typist(rt: &impl Abort, alloc: Global, digits: &str, way: &Way, key: KeyEvent
         Way::Search => typist.press(&[key, KeyEvent(K::Char('é'), M::NONE)]),
         _ => typist.press(&[key]),
     };
-    outcome.expect(rt, "no fault");
+    sure(rt, outcome);
     typist
-}
-
-/// The command of what is typed.
-fn commanded(
-    rt: &impl Abort,
-    alloc: Global,
-    state: &mut Editor<'_, '_>,
-    typist: &mut Typist,
-) -> Cmd {
-    let config = Config::builder(GraphemeClusterMode::Unicode).build();
-    let bindings = Bindings::new(alloc);
-    let mut input = InputState::new(&config, &bindings);
-    state
-        .next_cmd(&mut input, typist, true)
-        .expect(rt, "no fault")
 }
 
 /// What a key means: for a count that is handed over, or else the command where it is typed.
@@ -108,7 +92,10 @@ fn meant(
     match (count.0, way) {
         (None, _) => {
             let mut typist = typist(rt, alloc, count.1, way, key);
-            Meaning::Command(commanded(rt, alloc, state, &mut typist))
+            let config = Config::builder(GraphemeClusterMode::Unicode).build();
+            let bindings = Bindings::new(alloc);
+            let mut input = InputState::new(&config, &bindings);
+            Meaning::Command(sure(rt, state.next_cmd(&mut input, &mut typist, true)))
         }
         (Some(handed), Way::Second) => Meaning::Command(second_key(key, handed)),
         (handed, _) => {
@@ -133,16 +120,9 @@ fn found(
     let advisor = Some(&mut helper);
     let context = Context::new(&history);
     assert!(rt; text.is_char_boundary(cursor));
-    let mut state = State::with_line(
-        alloc,
-        &mut screen,
-        &"> ",
-        advisor,
-        context,
-        text,
-        cursor,
-    ).expect(rt, "no fault");
-    state.hint().expect(rt, "no fault");
+    let begun = State::with_line(alloc, &mut screen, &"> ", advisor, context, text, cursor);
+    let mut state = sure(rt, begun);
+    sure(rt, state.hint());
     meant(rt, alloc, &mut state, way, key, count)
 }
 
@@ -150,31 +130,26 @@ fn found(
 fn tries(rt: &impl Abort, alloc: Global, line: &Line, row: &Row, count: &Counted) {
     let (way, code, mods, forth, back) = row;
     let wanted = if count.2 { forth } else { back };
-    let wanted = wanted.replace(alloc, '#', count.3).expect(rt, "no fault");
+    let wanted = sure(rt, wanted.replace(alloc, '#', count.3));
     let outcome = match found(rt, alloc, line, way, KeyEvent(*code, *mods), count) {
         Meaning::Command(command) => format!(in alloc; "{command:?}"),
         other => format!(in alloc; "{other:?}"),
     };
-    let found = outcome.expect(rt, "no fault");
-    let is_so = found.as_str() == wanted.as_str();
+    let found = sure(rt, outcome);
+    let is_so = same(found.as_str(), wanted.as_str());
     holds(rt, is_so, found.as_str(), count.1.len());
 }
 
-/// Whether the key of a row is tried with a count: one that it goes on with is none.
-fn is_tried(row: &Row, count: &Counted) -> bool {
-    match (&row.0, count.0) {
-        (Way::Search, Some(_)) | (Way::Listed, None) => false,
-        (_, Some(_)) => true,
-        (_, None) => {
-            count.1.is_empty() || !continues_count(EditMode::Emacs, KeyEvent(row.1, row.2))
-        }
-    }
-}
-
-/// Tries the key of a row on a line with each count.
+/// Tries the key of a row on a line with each count, but for one that it goes on with.
 fn tries_each(rt: &impl Abort, alloc: Global, line: &Line, row: &Row) {
+    let goes_on = continues_count(EditMode::Emacs, KeyEvent(row.1, row.2));
     for count in COUNTS {
-        if is_tried(row, count) {
+        let is_tried = match (&row.0, count.0) {
+            (Way::Search, Some(_)) | (Way::Listed, None) => false,
+            (_, Some(_)) => true,
+            (_, None) => count.1.is_empty() || !goes_on,
+        };
+        if is_tried {
             tries(rt, alloc, line, row, count);
         }
     }
@@ -216,8 +191,8 @@ fn is_counted(rt: &impl Abort, alloc: Global, typed: &Typed) {
     for key in keys {
         count.push(KeyEvent(K::Char(key), M::NONE));
     }
-    let shown = count.prompt(alloc).expect(rt, "no fault");
-    let is_so = count.count() == Count { n, positive } && shown.as_str() == prompt;
+    let shown = sure(rt, count.prompt(alloc));
+    let is_so = count.count() == Count { n, positive } && same(shown.as_str(), prompt);
     holds(rt, is_so, shown.as_str(), usize::from(n));
 }
 
@@ -251,15 +226,12 @@ const COUNT_KEYS: &[CountKey] = &[
 fn is_of_count(count_key: &CountKey) -> bool {
     let (code, mods, begins, goes_on, vi_begins, vi_goes_on) = *count_key;
     let key = KeyEvent(code, mods);
-    let emacs = begins_count(EditMode::Emacs, InputMode::Insert, key);
-    let vi = begins_count(EditMode::Vi, InputMode::Command, key);
-    let other = begins_count(EditMode::Vi, InputMode::Insert, key)
-        || begins_count(EditMode::Vi, InputMode::Replace, key);
-    let goes = (
-        continues_count(EditMode::Emacs, key),
-        continues_count(EditMode::Vi, key),
-    );
-    (emacs, vi, other) == (begins, vi_begins, false) && goes == (goes_on, vi_goes_on)
+    let mut is_so = begins_count(EditMode::Emacs, InputMode::Insert, key) == begins;
+    is_so &= begins_count(EditMode::Vi, InputMode::Command, key) == vi_begins;
+    is_so &= !begins_count(EditMode::Vi, InputMode::Insert, key);
+    is_so &= !begins_count(EditMode::Vi, InputMode::Replace, key);
+    is_so &= continues_count(EditMode::Emacs, key) == goes_on;
+    is_so && continues_count(EditMode::Vi, key) == vi_goes_on
 }
 
 /// Each kind of search with its character.

@@ -1,7 +1,7 @@
 //! What is large fails for no reason of its own: 1,000 groups of changes, 1,000 lines of a history.
 
 use super::{at, does, edits, prompts, shelved};
-use crate::holds;
+use crate::{holds, sure};
 use line_buffer::{GraphemeClusterMode, KillRing};
 use line_config::Config;
 use line_editor::Bindings;
@@ -27,10 +27,10 @@ type Case = (
 /// times, the last once. Then the line has the length, the cursor and the place that are wanted.
 fn lasts(rt: &impl Abort, alloc: Global, case: &Case) {
     let history = shelved(rt, alloc, case.0);
-    let prompts = prompts(alloc).expect(rt, "no fault");
+    let prompts = sure(rt, prompts(alloc));
     let mut screen = Recorder::new(alloc, 80, false, 0);
     let mut helper = Advisor::new(Some("!!"), (true, true, None), None);
-    let mut state = edits(
+    let begun = edits(
         rt,
         alloc,
         &mut screen,
@@ -38,12 +38,13 @@ fn lasts(rt: &impl Abort, alloc: Global, case: &Case) {
         &mut helper,
         &history,
         ("", 0),
-    )
-    .expect(rt, "no fault");
+    );
+    let mut state = sure(rt, begun);
     repeats(rt, alloc, &mut state, case);
     let (before, behind) = at(rt, &state);
     let len = before.len().saturating_add(behind.len());
-    let is_so = (len, before.len(), state.place()) == case.5;
+    let (wanted, cursor, place) = case.5;
+    let is_so = len == wanted && before.len() == cursor && state.place() == place;
     holds(rt, is_so, case.3, len);
 }
 
@@ -54,21 +55,16 @@ fn repeats(rt: &impl Abort, alloc: Global, state: &mut Editor<'_, '_>, case: &Ca
     let input = InputState::new(&config, &bindings);
     let mut kills = KillRing::new(alloc, 60);
     for round in 0..case.2.saturating_add(2) {
-        let steps = in_round(case, round);
+        let steps = if round == 0 {
+            case.1
+        } else if round <= case.2 {
+            case.3
+        } else {
+            case.4
+        };
         if !steps.is_empty() {
-            does(rt, alloc, state, &input, &mut kills, steps).expect(rt, "no fault");
+            sure(rt, does(rt, alloc, state, &input, &mut kills, steps));
         }
-    }
-}
-
-/// The steps of a round, of which the first is 0.
-fn in_round(case: &Case, round: u64) -> &'static str {
-    if round == 0 {
-        case.1
-    } else if round <= case.2 {
-        case.3
-    } else {
-        case.4
     }
 }
 

@@ -2,7 +2,7 @@
 //! passes: it looks at what is left, or the command was not reached.
 
 use super::{at, does, edits, prompts};
-use crate::holds;
+use crate::{holds, is_parted, same};
 use line_buffer::{GraphemeClusterMode, KillRing};
 use line_config::{Config, ReadlineError, Result};
 use line_editor::Bindings;
@@ -41,7 +41,11 @@ fn tries(rt: &impl Abort, alloc: Global, case: &Case) -> Result<()> {
     let prompts = prompts(alloc)?;
     let mut screen = Recorder::new(alloc, 80, false, 0);
     let mut helper = asked(&case.0);
-    let line = begun(&case.0);
+    let line = if let Line(text, cursor) = case.0 {
+        (text, cursor)
+    } else {
+        ("", 0)
+    };
     let outcome = match edits(
         rt,
         alloc,
@@ -56,14 +60,6 @@ fn tries(rt: &impl Abort, alloc: Global, case: &Case) -> Result<()> {
     };
     holds(rt, history.len() == lines, case.1, lines);
     outcome
-}
-
-/// The line that a case begins with, and its cursor.
-fn begun(with: &With) -> (&'static str, usize) {
-    match with {
-        Line(text, cursor) => (*text, *cursor),
-        _ => ("", 0),
-    }
 }
 
 /// The helper that a case asks.
@@ -87,7 +83,8 @@ fn leaves(rt: &impl Abort, alloc: Global, case: &Case, state: &mut Editor<'_, '_
     starts(state, &input, before, behind)?;
     match does(rt, alloc, state, &input, &mut kills, case.2) {
         Ok(()) => {
-            holds(rt, Some(at(rt, state)) == case.3.split_once('|'), case.3, 0);
+            let (before, behind) = at(rt, state);
+            holds(rt, is_parted(before, behind, case.3), case.3, 0);
             Ok(())
         }
         Err(error) => {
@@ -111,7 +108,7 @@ fn settled(
     let outcome = executed(alloc, state, input, kills, &config, "Undo(65535)");
     let ended = outcome.expect(rt, "a command")?;
     let left = length(rt, state);
-    let is_so = ended == "proceeds" && (left == 0 || left == len);
+    let is_so = same(ended, "proceeds") && (left == 0 || left == len);
     holds(rt, is_so, "what was taken back", left);
     Ok(())
 }

@@ -2,6 +2,7 @@
 //! what is left.
 
 use super::handler::Handler;
+use crate::{is, same, sure};
 use line_buffer::{
     GraphemeClusterMode, KillRing, Layout, LineBuffer, Mode as Side, Movement, Position,
     RepeatCount, Unit,
@@ -310,12 +311,11 @@ pub(crate) fn agree(
     let mut is_well = left.amiss.is_empty();
     for way in others {
         let other = left_by(rt, alloc, desk, Work::Reads(*way, items));
-        let is_line = (other.line.as_str(), other.pos) == (left.line.as_str(), left.pos);
-        let is_yanked = other.yanked.as_deref() == left.yanked.as_deref();
-        let is_end = (other.place, other.end) == (left.place, left.end);
-        let draws_alike = !matches!(way, Way::Run) || other.redraws == left.redraws;
-        let is_same = is_line && is_yanked && is_end && draws_alike;
-        is_well = is_well && is_same && other.amiss.is_empty();
+        is_well &= same(other.line.as_str(), left.line.as_str()) && other.pos == left.pos;
+        is_well &= is(other.yanked.as_deref(), left.yanked.as_deref());
+        is_well &= other.place == left.place && same(other.end, left.end);
+        is_well &= !matches!(way, Way::Run) || other.redraws == left.redraws;
+        is_well &= other.amiss.is_empty();
     }
     is_well.then_some(left.end)
 }
@@ -328,9 +328,9 @@ pub(crate) fn agree(
 pub(crate) fn left_by(rt: &impl Abort, alloc: Global, desk: &Desk, work: Work<'_>) -> Left {
     let (text, cursor) = desk.start;
     assert!(rt; desk.columns > 0 && text.is_char_boundary(cursor));
-    let history = shelf(alloc, desk.entries).expect(rt, "no fault");
+    let history = sure(rt, shelf(alloc, desk.entries));
     let mut bindings = Bindings::new(alloc);
-    bind_all(alloc, &mut bindings, desk.bound).expect(rt, "no fault");
+    sure(rt, bind_all(alloc, &mut bindings, desk.bound));
     let mut screen = Plain::new(alloc, desk.columns);
     let mut helper = Guide::new(desk.hints, desk.brackets);
     let (helper, context) = (Some(&mut helper), Context::new(&history));
@@ -342,7 +342,7 @@ pub(crate) fn left_by(rt: &impl Abort, alloc: Global, desk: &Desk, work: Work<'_
     let mut bench = Bench {
         alloc,
         desk: *desk,
-        state: state.expect(rt, "no fault"),
+        state: sure(rt, state),
         input: InputState::new(&config, &bindings),
         keys: KeyQueue::new(alloc),
         kills: KillRing::new(alloc, 60),
@@ -397,18 +397,17 @@ impl Bench<'_, '_, '_> {
     /// nothing is drawn.
     fn does(&mut self, rt: &impl Abort, work: Work<'_>) -> Left {
         if !self.desk.killed.is_empty() {
-            let killed = self.kills.kill(self.desk.killed, Side::Append);
-            killed.expect(rt, "no fault");
+            sure(rt, self.kills.kill(self.desk.killed, Side::Append));
         }
         if self.desk.takes_commands {
             let esc = KeyEvent(K::Esc, M::NONE);
-            self.keys.press(esc).expect(rt, "no fault");
+            sure(rt, self.keys.press(esc));
             let read = self.state.next_cmd(&mut self.input, &mut self.keys, false);
-            let _ = read.expect(rt, "no fault");
+            let _ = sure(rt, read);
             self.keys.mark();
         }
         if !matches!(&work, Work::Reads(Way::Run, _)) {
-            self.state.refresh_line().expect(rt, "no fault");
+            sure(rt, self.state.refresh_line());
             if !self.is_drawn(rt) {
                 self.amiss = UNDRAWN;
             }
@@ -431,7 +430,7 @@ impl Bench<'_, '_, '_> {
             self.given = index;
             if is_read || index == items.len() {
                 let end = self.turns(rt, way);
-                if end != UNREAD {
+                if !same(end, UNREAD) {
                     return end;
                 }
             }
@@ -440,7 +439,7 @@ impl Bench<'_, '_, '_> {
                 Some(Item::Paste(text)) => self.keys.paste(text),
                 None => Ok(()),
             };
-            handed.expect(rt, "no fault");
+            sure(rt, handed);
         }
         "eof"
     }
@@ -465,7 +464,7 @@ impl Bench<'_, '_, '_> {
                 Err(error) => ended(&Err(error)),
             };
             self.amiss = self.sees(before);
-            if end != "proceeds" {
+            if !same(end, "proceeds") {
                 return end;
             }
             self.keys.mark();
@@ -502,7 +501,7 @@ impl Bench<'_, '_, '_> {
     fn makes(&mut self, rt: &impl Abort, command: Cmd) -> bool {
         let (input, kills) = (&self.input, &mut self.kills);
         let status = execute(command, &mut self.state, input, kills, &self.config);
-        matches!(status.expect(rt, "no fault"), Status::Proceed)
+        matches!(sure(rt, status), Status::Proceed)
     }
 
     /// The same, and looks at what is drawn then.
@@ -519,12 +518,12 @@ impl Bench<'_, '_, '_> {
         let mut proceed = true;
         if matches!(beside, Beside::Typed) {
             for _ in 0..2 {
-                proceed = self.proceeds(rt, Cmd::SelfInsert(1, '-')) && proceed;
+                proceed &= self.proceeds(rt, Cmd::SelfInsert(1, '-'));
             }
         }
-        proceed = self.proceeds(rt, command) && proceed;
+        proceed &= self.proceeds(rt, command);
         if matches!(beside, Beside::Yanked) {
-            proceed = self.proceeds(rt, Cmd::Yank(1, Anchor::Before)) && proceed;
+            proceed &= self.proceeds(rt, Cmd::Yank(1, Anchor::Before));
         }
         if proceed { "proceeds" } else { "submits" }
     }
@@ -542,10 +541,10 @@ impl Bench<'_, '_, '_> {
         if !line.is_char_boundary(pos) {
             return false;
         }
-        let buffer = LineBuffer::init(self.alloc, line, pos).expect(rt, "no fault");
+        let buffer = sure(rt, LineBuffer::init(self.alloc, line, pos));
         let prompt_end = screen.calculate_position(self.desk.prompt, ORIGIN);
         let layout = screen.compute_layout(prompt_end, true, &buffer, screen.hint());
-        let shows_so = screen.prompt() == self.desk.prompt && screen.text() == line;
+        let shows_so = same(screen.prompt(), self.desk.prompt) && same(screen.text(), line);
         let is_placed = screen.cursor() == kept.cursor && kept.prompt_size == prompt_end;
         let is_laid = kept.cursor == layout.cursor && kept.end == layout.end;
         shows_so && is_placed && is_laid && kept.has_info == layout.has_info
@@ -553,10 +552,10 @@ impl Bench<'_, '_, '_> {
 
     /// What is left after this end. Then all is taken back. What proceeded was looked at last.
     fn leaves(&mut self, rt: &impl Abort, end: &'static str) -> Left {
-        if (self.keys.failures() > 0) != (end == "fails") {
+        if (self.keys.failures() > 0) != same(end, "fails") {
             self.amiss = "a failure of the reader";
         }
-        let is_drawn = end == "proceeds" || self.is_drawn(rt);
+        let is_drawn = same(end, "proceeds") || self.is_drawn(rt);
         let Seen {
             line,
             pos,
@@ -566,13 +565,13 @@ impl Bench<'_, '_, '_> {
         } = look(&self.state);
         let redraws = screen.redraws();
         let at = (layout.cursor.row, layout.cursor.col);
-        let line = String::from_str(self.alloc, line).expect(rt, "no fault");
+        let line = sure(rt, String::from_str(self.alloc, line));
         let _ = self.makes(rt, Cmd::Undo(65535));
-        if look(&self.state).line != self.desk.start.0 {
+        if !same(self.state.line(), self.desk.start.0) {
             self.amiss = "what was taken back";
         }
         let yanked = match self.kills.yank() {
-            Some(text) => Some(String::from_str(self.alloc, text).expect(rt, "no fault")),
+            Some(text) => Some(sure(rt, String::from_str(self.alloc, text))),
             None => None,
         };
         Left {

@@ -4,7 +4,7 @@
 
 use super::bench::{Beside, Desk, PLAIN, Work, left_by};
 use super::movements::{Cell, OF_LONG, OF_TWO, Row};
-use crate::holds;
+use crate::{holds, is, same, sure};
 use line_buffer::Movement::{self, *};
 use line_buffer::RepeatCount;
 use line_config::EditMode;
@@ -81,9 +81,9 @@ const KILLED: &str = "é";
 
 /// The command of an operation.
 fn command(rt: &impl Abort, alloc: Global, case: Case<'_>, op: Op) -> Cmd {
-    let movement = case.movement.clone().expect(rt, "no fault");
+    let movement = sure(rt, case.movement.clone());
     let text = if matches!(op, Op::Puts) { "e" } else { "x" };
-    let text = String::from_str(alloc, text).expect(rt, "no fault");
+    let text = sure(rt, String::from_str(alloc, text));
     let n = case.count;
     match op {
         Op::Moves => Cmd::Move(movement),
@@ -237,9 +237,10 @@ fn leaves(rt: &impl Abort, alloc: Global, desk: &Desk, work: Work<'_>, wanted: S
     let copies = rest.strip_suffix(behind).unwrap_or("?");
     let first = copies.len().saturating_sub(by.len());
     let are_alike = copies.is_empty()
-        || (copies.starts_with(by) && copies.get(by.len()..) == copies.get(..first));
+        || (copies.starts_with(by) && is(copies.get(by.len()..), copies.get(..first)));
     let are_all = copies.len() == by.len().saturating_mul(wanted.count) && are_alike;
-    let is_well = (left.pos, left.end, left.amiss) == (wanted.pos, "proceeds", "");
+    let is_end = left.pos == wanted.pos && same(left.end, "proceeds");
+    let is_well = is_end && left.amiss.is_empty();
     holds(rt, are_all && is_well, text, desk.start.1);
 }
 

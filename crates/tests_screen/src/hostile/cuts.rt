@@ -3,7 +3,7 @@
 //! whole list leaves.
 
 use super::bench::{Desk, Item, PLAIN, To, VI, Way, Work, items, left_by};
-use crate::holds;
+use crate::{holds, is, same, sure};
 use line_buffer::Unit;
 use line_keys::keys::{KeyCode as K, KeyEvent, Modifiers as M};
 use std::alloc::Global;
@@ -209,10 +209,14 @@ fn leaves(
     end: (&str, usize),
 ) -> (bool, (Unit, Unit), u64) {
     let left = left_by(rt, alloc, &row.desk, work);
-    let line = left.line.as_str().split_at_checked(left.pos);
-    let is_line = line == Some(stage.2) && left.yanked.as_deref() == stage.3;
-    let is_end = (left.end, left.given) == end && (left.place, left.amiss) == (0, "");
-    holds(rt, is_line && is_end, row.keys, stage.0);
+    let mut is_so = match left.line.as_str().split_at_checked(left.pos) {
+        Some((before, behind)) => same(before, stage.2.0) && same(behind, stage.2.1),
+        None => false,
+    };
+    is_so &= is(left.yanked.as_deref(), stage.3);
+    is_so &= same(left.end, end.0) && left.given == end.1;
+    is_so &= left.place == 0 && left.amiss.is_empty();
+    holds(rt, is_so, row.keys, stage.0);
     (left.is_drawn, left.at, left.redraws)
 }
 
@@ -228,8 +232,10 @@ fn cuts(rt: &impl Abort, alloc: Global, row: &Row, keys: &[Item], at: usize) {
     holds(rt, is_drawn || last.0 != at, row.keys, at);
     let (count, redraws) = (keys.len(), row.redraws.saturating_add(last.1));
     let work = Work::Reads(Way::CutAt(at), keys);
-    let drawn = leaves(rt, alloc, row, work, stage(row, count), (row.end, count));
-    holds(rt, drawn == (true, row.at, redraws), row.keys, at);
+    let stage = stage(row, count);
+    let (is_drawn, place, drawn) = leaves(rt, alloc, row, work, stage, (row.end, count));
+    let is_placed = place.0 == row.at.0 && place.1 == row.at.1;
+    holds(rt, is_drawn && is_placed && drawn == redraws, row.keys, at);
 }
 
 const ROWS: &[Row] = &[
@@ -249,7 +255,7 @@ const ROWS: &[Row] = &[
 #[test]
 fn at_every_place(rt: HostRuntime) {
     for row in ROWS {
-        let keys = items(rt.alloc(), row.keys).expect(&rt, "no fault");
+        let keys = sure(&rt, items(rt.alloc(), row.keys));
         for at in 0..=keys.len() {
             cuts(&rt, rt.alloc(), row, keys.as_slice(), at);
         }

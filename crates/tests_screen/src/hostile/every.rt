@@ -2,7 +2,7 @@
 //! operator, and as second key.
 
 use super::bench::{CODES, Desk, Item, PLAIN, SETS, Way, agree, items};
-use crate::holds;
+use crate::{holds, is, sure};
 use line_config::EditMode::{self, Emacs, Vi};
 use line_keys::keys::{KeyCode as K, KeyEvent, Modifiers as M};
 use std::alloc::Global;
@@ -66,15 +66,15 @@ fn end_of(style: EditMode, key: KeyEvent) -> &'static str {
 /// code.
 fn end_as_they_must(rt: &impl Abort, alloc: Global, (style, before, alone): Row) {
     let desk = Desk { style, ..PLAIN };
-    let mut typed = items(alloc, before).expect(rt, "no fault");
+    let mut typed = sure(rt, items(alloc, before));
     let mut number = 0_usize;
     for code in CODES {
         for mods in SETS {
             let key = KeyEvent(*code, *mods);
-            typed.push(Item::Key(key)).expect(rt, "no fault");
+            sure(rt, typed.push(Item::Key(key)));
             let end = agree(rt, alloc, &desk, &typed, Way::Run, &[Way::OneByOne]);
             let wanted = if alone { end_of(style, key) } else { "eof" };
-            holds(rt, end == Some(wanted), before, number);
+            holds(rt, is(end, Some(wanted)), before, number);
             let _ = typed.pop();
             number = number.saturating_add(1);
         }

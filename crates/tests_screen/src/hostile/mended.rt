@@ -2,7 +2,7 @@
 //! failed. Once nothing fails, what is left is drawn as an editor that is made of it draws it.
 
 use super::bench::{self, Desk, Item, PLAIN, Seen, To, VI, bind_all, ended, items, look, shelf};
-use crate::holds;
+use crate::{holds, is, is_parted, same, sure};
 use line_buffer::{GraphemeClusterMode, KillRing, Unit};
 use line_config::{Config, ReadlineError, Result};
 use line_editor::run::run;
@@ -273,11 +273,13 @@ fn is_left(scene: &Scene, state: &Editor<'_, '_>, end: &str) -> bool {
         layout,
         screen,
     } = look(state);
-    let at = (layout.cursor.row, layout.cursor.col);
-    let is_drawn = (at, screen.redraws()) == (scene.at, scene.redraws);
-    let line = line.split_at_checked(pos);
-    let is_line = line.is_some() && line == scene.left.split_once('|');
-    is_drawn && is_line && (place, end) == (scene.place, scene.end)
+    let mut is_so = match line.split_at_checked(pos) {
+        Some((before, behind)) => is_parted(before, behind, scene.left),
+        None => false,
+    };
+    is_so &= layout.cursor.row == scene.at.0 && layout.cursor.col == scene.at.1;
+    is_so &= screen.redraws() == scene.redraws;
+    is_so && place == scene.place && same(end, scene.end)
 }
 
 /// Whether the place is within the history, and the line is drawn again as an editor that is made
@@ -310,23 +312,30 @@ fn is_mended(alloc: Global, scene: &Scene, state: &mut Editor<'_, '_>) -> Result
 /// Whether an editor that has drawn nothing draws what another one shows, on its screen too.
 fn draws_alike(mut anew: Editor<'_, '_>, state: &Editor<'_, '_>) -> Result<bool> {
     anew.refresh_line()?;
-    let is_hinted = (anew.has_hint(), anew.hint_text()) == (state.has_hint(), state.hint_text());
-    Ok(is_hinted && are_alike(look(&anew), look(state)))
+    let is_hinted = anew.has_hint() == state.has_hint();
+    let is_so = is_hinted && is(anew.hint_text(), state.hint_text());
+    Ok(is_so && are_alike(look(&anew), look(state)))
 }
 
 /// Whether two editors have the same line, place and layout, and their screens show the same, and
 /// were handed the same last.
 fn are_alike(one: Seen<'_, Recorder>, other: Seen<'_, Recorder>) -> bool {
     let (kept, second) = (one.layout, other.layout);
-    let is_placed = (kept.prompt_size, kept.cursor, kept.end)
-        == (second.prompt_size, second.cursor, second.end);
-    let is_told = (kept.has_info, kept.default_prompt) == (second.has_info, second.default_prompt)
-        && kept.grapheme_cluster_mode == second.grapheme_cluster_mode;
-    let is_line = (one.line, one.pos, one.place) == (other.line, other.pos, other.place);
-    let handed = handed_last(one.screen.log());
-    let is_handed = handed.is_some() && handed == handed_last(other.screen.log());
-    let is_shown = is_handed && one.screen.shows() == other.screen.shows();
-    is_placed && is_told && is_line && is_shown
+    let mut is_so = kept.prompt_size == second.prompt_size;
+    is_so &= kept.cursor == second.cursor && kept.end == second.end;
+    is_so &= kept.has_info == second.has_info && kept.default_prompt == second.default_prompt;
+    is_so &= kept.grapheme_cluster_mode == second.grapheme_cluster_mode;
+    is_so &= same(one.line, other.line) && one.pos == other.pos && one.place == other.place;
+    is_so &= match (
+        handed_last(one.screen.log()),
+        handed_last(other.screen.log()),
+    ) {
+        (Some((before, behind)), Some((front, rest))) => same(before, front) && same(behind, rest),
+        _ => false,
+    };
+    let (text, place, origin) = one.screen.shows();
+    let (shown, cursor, beginning) = other.screen.shows();
+    is_so && same(text, shown) && place == cursor && origin == beginning
 }
 
 /// What a screen was handed last, before and after the old layout. A line of its log can miss its
@@ -362,7 +371,7 @@ fn fails_each(rt: &impl Abort, alloc: Global, scene: &Scene) {
                 call,
                 ending,
             };
-            let is_right = plays(alloc, take).expect(rt, "no fault");
+            let is_right = sure(rt, plays(alloc, take));
             holds(rt, is_right, scene.typed, call as usize);
         }
     }

@@ -4,7 +4,7 @@
 //! taken back the text is that of the start.
 
 use super::bench::{CODES, Desk, Item, SETS, To, Way, agree};
-use crate::holds;
+use crate::{holds, sure};
 use line_buffer::Unit;
 use line_config::EditMode;
 use line_keys::keys::{KeyCode as K, KeyEvent, Modifiers as M};
@@ -212,7 +212,7 @@ fn plays(rt: &impl Abort, alloc: Global, style: EditMode, seed: usize) {
         } else {
             Item::Key(key(&mut dice, style))
         };
-        items.push(item).expect(rt, "no fault");
+        sure(rt, items.push(item));
     }
     let others = &[Way::Run, Way::OneByOne];
     let end = agree(rt, alloc, &desk, items.as_slice(), Way::Turns, others);

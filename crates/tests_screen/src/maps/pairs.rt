@@ -1,7 +1,7 @@
 //! The map of bindings beside a list of pairs that answers the same.
 
 use super::number;
-use crate::holds;
+use crate::{holds, sure};
 use line_editor::Bindings;
 use line_editor::binding::{Event, EventHandler};
 use line_keys::cmd::Cmd;
@@ -47,8 +47,7 @@ fn drawn(rt: &impl Abort, alloc: Global, seed: u32) -> Event {
             _ => KeyCode::Char('a'),
         };
         rest /= 3;
-        keys.push(KeyEvent(code, Modifiers::NONE))
-            .expect(rt, "no fault");
+        sure(rt, keys.push(KeyEvent(code, Modifiers::NONE)));
     }
     Event::KeySeq(keys)
 }
@@ -62,10 +61,10 @@ fn binds(
     event: Event,
     own: u16,
 ) -> Option<u16> {
-    let copy = event.clone(alloc).expect(rt, "no fault");
-    pairs.push((copy, own)).expect(rt, "no fault");
+    let copy = sure(rt, event.clone(alloc));
+    sure(rt, pairs.push((copy, own)));
     let handler = EventHandler::from(Cmd::SelfInsert(own, 'x'));
-    let old = bindings.insert(event, handler).expect(rt, "no fault");
+    let old = sure(rt, bindings.insert(event, handler));
     number(old.as_ref())
 }
 
@@ -80,7 +79,8 @@ fn answer(
     own: u16,
 ) {
     let found = number(bindings.get(&event));
-    let is_same = looked_up(pairs, &event) == (found, bindings.begins(&event));
+    let (last, begins) = looked_up(pairs, &event);
+    let is_same = last == found && begins == bindings.begins(&event);
     holds(rt, is_same, "a look-up", pairs.len());
     if own % 3 == 0 {
         let old = binds(rt, alloc, bindings, pairs, event, own);

@@ -1,6 +1,6 @@
 //! Scripts, line by line.
 
-use crate::holds;
+use crate::{holds, sure};
 use line_keys::keys::{KeyCode, KeyEvent, Modifiers};
 use line_keys::raw_reader::RawReader;
 use line_parts::History;
@@ -13,15 +13,15 @@ use std::process::Abort;
 fn shows(rt: &impl Abort, alloc: Global, parsed: &mut Parsed, out: &mut Vec<u8>) {
     let mut lines = Vec::new(alloc);
     for line in parsed.history.iter() {
-        lines.push(line.as_str()).expect(rt, "no fault");
+        sure(rt, lines.push(line.as_str()));
     }
     let (style, prompt, columns) = (parsed.edit_mode, parsed.prompt.as_str(), parsed.columns);
     let (hints, brackets) = (parsed.helper.hints, parsed.helper.brackets);
-    write!(
+    let written = write!(
         out,
         "\nhistory {lines:?}\nstyle {style:?}\nprompt {prompt:?} columns {columns}\nhints {hints} brackets {brackets}\nitems"
-    )
-    .expect(rt, "no fault");
+    );
+    sure(rt, written);
     drop(lines);
     let items = &mut parsed.items;
     for _ in 0..items.len() {
@@ -34,15 +34,15 @@ fn shows(rt: &impl Abort, alloc: Global, parsed: &mut Parsed, out: &mut Vec<u8>)
 /// Writes down the next item: a typed character alone, a key, or a pasted text with the key that
 /// comes before it.
 fn shows_item(rt: &impl Abort, out: &mut Vec<u8>, items: &mut Script) {
-    let written = match items.next_key(false).expect(rt, "no fault") {
+    let written = match sure(rt, items.next_key(false)) {
         KeyEvent(KeyCode::Char(c), Modifiers::NONE) => write!(out, " {c:?}"),
         KeyEvent(KeyCode::BracketedPasteStart, Modifiers::NONE) => {
-            let pasted = items.read_pasted_text().expect(rt, "no fault");
+            let pasted = sure(rt, items.read_pasted_text());
             write!(out, " pasted {pasted:?}")
         }
         key => write!(out, " {key:?}"),
     };
-    written.expect(rt, "no fault");
+    sure(rt, written);
 }
 
 /// One of the lines that are written down of a script is this one, or the script is refused by the
@@ -52,7 +52,7 @@ fn gives(rt: &impl Abort, alloc: Global, script: &[u8], wanted: &str) {
     match read_script(alloc, script) {
         Ok(mut parsed) => shows(rt, alloc, &mut parsed, &mut out),
         Err(ScriptError::BadLine(number)) => {
-            write!(out, "bad line {number}").expect(rt, "no fault");
+            sure(rt, write!(out, "bad line {number}"));
         }
         Err(ScriptError::Fault(_)) => {}
     }
