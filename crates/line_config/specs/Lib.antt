@@ -1,4 +1,4 @@
 pub mod Error
 pub mod Settings
-pub mod Usual
 pub mod Failures
+pub mod PromptText

@@ -70,6 +70,11 @@ abbrev pub duplicates_of : Bool → HistoryDuplicates
 duplicates_of true = IgnoreConsecutive
 duplicates_of false = AlwaysAdd
 
+-- whether colors are shown in a mode
+abbrev pub shows_colors : ColorMode → Bool
+shows_colors Disabled = false
+shows_colors _ = true
+
 -- the color mode under this value of `NO_COLOR`: one that is not empty disables `Enabled`
 abbrev pub colors_under : ColorMode → Option (List ℕ) → ColorMode
 colors_under Enabled (Some (_ ∷ _)) = Disabled

@@ -134,7 +134,7 @@ impl<'out, 'prompt, W: Renderer, H: Helper, P: Prompt, S: History> State<
             (empty_draft ctx.entry.index)
             (environment_by H.hint_at H.verdict_at H.lights H.Completer helper.entry
             (S.lines ctx.entry.history))
-            (sure_by H.Hinter.sure H.Validator.sure (S.sure ctx.entry.history) helper.entry)
+            (sure_by H.Hinter.sure H.Validator.sure H.Completer.sure (S.sure ctx.entry.history) helper.entry)
             (never_drawn (W.surface out.old) (W.screen out.old) (P.raw_text prompt.now))
             (W.failures out.old) (W.redraws out.old)
             (out.entry.ghost_name, option_map (λ h. h.ghost_name) helper.entry)) }
@@ -164,7 +164,7 @@ impl<'out, 'prompt, W: Renderer, H: Helper, P: Prompt, S: History> State<
             })
             (environment_by H.hint_at H.verdict_at H.lights H.Completer helper.entry
             (S.lines ctx.entry.history))
-            (sure_by H.Hinter.sure H.Validator.sure (S.sure ctx.entry.history) helper.entry)
+            (sure_by H.Hinter.sure H.Validator.sure H.Completer.sure (S.sure ctx.entry.history) helper.entry)
             (never_drawn (W.surface out.old) (W.screen out.old) (P.raw_text prompt.now))
             (W.failures out.old) (W.redraws out.old)
             (out.entry.ghost_name, option_map (λ h. h.ghost_name) helper.entry)) }
@@ -188,7 +188,7 @@ impl<'out, 'prompt, W: Renderer, H: Helper, P: Prompt, S: History> State<
             (record (empty_draft ctx.entry.index) { line = edited.line; changes = edited.changes })
             (environment_by H.hint_at H.verdict_at H.lights H.Completer helper.entry
             (S.lines ctx.entry.history))
-            (sure_by H.Hinter.sure H.Validator.sure (S.sure ctx.entry.history) helper.entry)
+            (sure_by H.Hinter.sure H.Validator.sure H.Completer.sure (S.sure ctx.entry.history) helper.entry)
             (never_drawn (W.surface out.old) (W.screen out.old) (P.raw_text prompt.now))
             (W.failures out.old) (W.redraws out.old)
             (out.entry.ghost_name, option_map (λ h. h.ghost_name) helper.entry) }

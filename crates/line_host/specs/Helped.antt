@@ -10,6 +10,7 @@ use Rattle.line_parts.specs.Hint.{suggested}
 use Rattle.line_parts.specs.HistoryHint.{history_hint}
 use Rattle.line_parts.specs.Verdict.{valid}
 use Rattle.line_parts.specs.WordList.{completed_among}
+use Rattle.line_parts.specs.Written.{put_to_cursor}
 use Rattle.line_parts.specs.declared.completion.word_list.Words.{Words}
 use Rattle.line_parts.specs.declared.helper.hints_and_brackets.HintsAndBrackets.{HintsAndBrackets}
 use Rattle.line_parts.specs.declared.helper.parts.Parts.{Parts}
@@ -47,7 +48,7 @@ answers_by helper newest = record {
   hint_at = λ shown. if helper.hinter.hints then option_map suggested (history_hint shown) else None;
   verdict_at = Some (λ text. if helper.validator.brackets then bracket_verdict text else valid None);
   lights = λ text cursor kind. helper.highlighter.lights_brackets && is_some (remembered text cursor kind);
-  own_completion = λ shown. Some (completed_among (map string_bytes helper.completer.words.items) shown.text shown.cursor);
-  own_update = λ written start elected. None;
+  completion_at = λ shown. completed_among (map string_bytes helper.completer.words.items) shown.text shown.cursor;
+  updated = λ written start elected. put_to_cursor written start elected;
   lines = newest;
 }

@@ -7,8 +7,7 @@ use Rattle.std.proofs.lemmas.Slice.Eq.{starts_is}
 use Rattle.std.proofs.lemmas.Simd.{map-map}
 use Rattle.std.specs.List.{slice_range, starts_with}
 use Rattle.std.specs.Str.Pattern.{LacksTextAt}
-use Rattle.line_config.specs.Usual.{IsUsualOrOwn}
-use Rattle.line_parts.specs.Candidate.{Completion, Offer, no_completion}
+use Rattle.line_parts.specs.Candidate.{Completion, Offer}
 use Rattle.line_parts.specs.Arguments.{is_argument}
 
 -- where the command does not stand first, it does not with the space
@@ -33,9 +32,9 @@ argument command text rest r is tells =
     )
 
 -- one of two is asked, and offers the same under another name
-pub asked : (test is : Bool) (one other : Option Completion) (start : ℕ) (offers named : List Offer) → test ≡ is → named ≡ offers
-    → IsUsualOrOwn no_completion (cond is one other) (record { start = start; offers = offers })
-    → IsUsualOrOwn no_completion (cond test one other) (record { start = start; offers = named })
+pub asked : (test is : Bool) (one other : Completion) (start : ℕ) (offers named : List Offer) → test ≡ is → named ≡ offers
+    → record { start = start; offers = offers } ≡ cond is one other
+    → record { start = start; offers = named } ≡ cond test one other
 asked test is one other start offers named answered same said = rw (answered, same) said
 
 -- candidates under another name offer what they offered

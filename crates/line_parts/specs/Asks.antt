@@ -11,10 +11,11 @@ pub data Asks : Type 0 where
   for_verdict : Asks
   for_all : Asks
 
--- whether no error of input or output comes from a hint, from a validation result and from the history
+-- whether no error of input or output comes from a hint, from a validation result, from a completion and from the history
 pub record Sureness : Type 0 where
   pub hints : Bool
   pub verdicts : Bool
+  pub completions : Bool
   pub history : Bool
 
 -- whether no error of input or output comes from those that are asked

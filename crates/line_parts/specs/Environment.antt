@@ -7,14 +7,14 @@ use Rattle.line_parts.specs.Verdict.{Verdict, valid}
 use Rattle.line_parts.specs.Written.{Written}
 use Rattle.line_parts.specs.declared.highlight.CmdKind.{CmdKind}
 
--- the helper's hints, its validation results if there is a helper, its full drawings, its own completions and what it makes of an
--- elected text by itself, and the history's lines
+-- the helper's hints, its validation results if there is a helper, its full drawings, its completions and what it makes of an elected
+-- text, and the history's lines
 pub record Environment : Type 0 where
   pub hint_at : Shown → Option Suggestion
   pub verdict_at : Option (List ℕ → Verdict)
   pub lights : List ℕ → ℕ → CmdKind → Bool
-  pub own_completion : Shown → Option Completion
-  pub own_update : Written → ℕ → List ℕ → Option Written
+  pub completion_at : Shown → Completion
+  pub updated : Written → ℕ → List ℕ → Written
   pub lines : List (List ℕ)
 
 -- what is shown of a line at a history index

@@ -2,7 +2,7 @@
 use Rattle.std.specs.Prelude.{ℕ, Bool, true, false, ◌&&◌, List, Option, Some, None}
 use Rattle.std.specs.Borrow.{MutBor}
 use Rattle.line_parts.specs.Asks.{Sureness}
-use Rattle.line_parts.specs.Candidate.{Completion}
+use Rattle.line_parts.specs.Candidate.{Completion, no_completion}
 use Rattle.line_parts.specs.Environment.{Environment}
 use Rattle.line_parts.specs.Hint.{Suggestion}
 use Rattle.line_parts.specs.Shown.{Shown}
@@ -34,30 +34,31 @@ unfoldable pub is_sure_by : {H : Type 0} → (H → Bool) → Option (MutBor H) 
 is_sure_by sure None = true
 is_sure_by sure (Some helper) = sure helper.now
 
--- whether a hint comes without an error of input or output, by whether the history is sure, which a helper may ask
-unfoldable pub hints_surely_by : {H : Type 0} → (H → Bool) → Bool → Option (MutBor H) → Bool
-hints_surely_by sure history None = true
-hints_surely_by sure history (Some helper) = sure helper.now && history
+-- the same of a helper that may ask the history too
+unfoldable pub is_sure_with : {H : Type 0} → (H → Bool) → Bool → Option (MutBor H) → Bool
+is_sure_with sure history None = true
+is_sure_with sure history (Some helper) = sure helper.now && history
 
--- who is sure of a helper, if there is one, and a history
-abbrev pub sure_by : {H : Type 0} → (H → Bool) → (H → Bool) → Bool → Option (MutBor H) → Sureness
-sure_by hinter validator history helper = record {
-  hints = hints_surely_by hinter history helper;
+-- who is sure of a helper, if there is one, and a history, which the helper may ask for a hint and for a completion
+abbrev pub sure_by : {H : Type 0} → (H → Bool) → (H → Bool) → (H → Bool) → Bool → Option (MutBor H) → Sureness
+sure_by hinter validator completer history helper = record {
+  hints = is_sure_with hinter history helper;
   verdicts = is_sure_by validator helper;
+  completions = is_sure_with completer history helper;
   history = history;
 }
 
--- a helper's own completions; without one there are none
-unfoldable pub completion_by : {H : Type 0} → (H → Shown → Option Completion) → Option (MutBor H)
-    → Shown → Option Completion
-completion_by own_completion None shown = None
-completion_by own_completion (Some helper) shown = own_completion helper.now shown
+-- the completions of a helper; without one nothing is offered
+unfoldable pub completion_by : {H : Type 0} → (H → Shown → Completion) → Option (MutBor H)
+    → Shown → Completion
+completion_by completion_at None shown = no_completion
+completion_by completion_at (Some helper) shown = completion_at helper.now shown
 
--- what a helper makes of an elected text by itself; without one the line stays
-unfoldable pub update_by : {H : Type 0} → (H → Written → ℕ → List ℕ → Option Written) → Option (MutBor H)
-    → Written → ℕ → List ℕ → Option Written
-update_by own_update None written start text = Some written
-update_by own_update (Some helper) written start text = own_update helper.now written start text
+-- what a helper makes of an elected text; without one the line stays
+unfoldable pub update_by : {H : Type 0} → (H → Written → ℕ → List ℕ → Written) → Option (MutBor H)
+    → Written → ℕ → List ℕ → Written
+update_by updated None written start text = written
+update_by updated (Some helper) written start text = updated helper.now written start text
 
 -- what answers for a line: a helper, if there is one, and the lines of a history
 abbrev pub environment_by : {H C : Type 0} → (H → Shown → Option Suggestion) → (H → List ℕ → Verdict)
@@ -66,7 +67,7 @@ environment_by hint_at verdict_at lights completer helper lines = record {
   hint_at = hint_by hint_at helper;
   verdict_at = verdict_by verdict_at helper;
   lights = lights_by lights helper;
-  own_completion = completion_by completer.own_completion helper;
-  own_update = update_by completer.own_update helper;
+  completion_at = completion_by completer.completion_at helper;
+  updated = update_by completer.updated helper;
   lines = lines;
 }

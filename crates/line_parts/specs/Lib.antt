@@ -32,6 +32,5 @@ pub mod WordList
 pub mod Written
 pub use Rattle.line_config.specs.Error
 pub use Rattle.line_config.specs.Settings
-pub use Rattle.line_config.specs.Usual
 pub use Rattle.line_buffer.specs.Line
 pub use Rattle.line_buffer.specs.Changes

@@ -1,9 +1,8 @@
 //! Completions of a part of the line.
 ghost use Rattle.std.specs.Prelude.{◌≡◌, ◌≤◌, ℕ, Bool, true, false, List, Option, Some, None};
-ghost use Rattle.std.specs.Prelude.{map, IfOk, IsOk, OnOk, IsCharBoundary, string_bytes};
+ghost use Rattle.std.specs.Prelude.{[], map, IfOk, IsOk, OnOk, IsCharBoundary, string_bytes};
 ghost use Rattle.line_buffer.specs.Undo.{StillTellsOrGone};
 ghost use Rattle.line_config.specs.Error.{IoOnlyIf, FaultsOnly};
-ghost use Rattle.line_config.specs.Usual.{IsUsualOrOwn};
 ghost use Rattle.line_parts.specs.Written.{PutsToCursor, put_to_cursor, written_as};
 
 mod arguments;
@@ -76,7 +75,7 @@ impl Candidate for &str {
 /// Completes a part of the line.
 pub trait Completer {
     ghost use Rattle.line_parts.specs.Candidate.{BeginsIn, Completion, no_completion, offer_of};
-    ghost use Rattle.line_parts.specs.Written.{Written};
+    ghost use Rattle.line_parts.specs.Written.{Written, put_to_cursor};
     ghost use Rattle.line_parts.specs.Context.{shown_in};
     ghost use Rattle.line_parts.specs.Shown.{Shown, NotBoth};
 
@@ -86,12 +85,12 @@ pub trait Completer {
     // Whether no error of input or output comes from it, where none comes from the history.
     ghost sure: { Self → Bool };
 
-    // A completion of its own for what it is shown. Where this is None, nothing is offered.
-    ghost own_completion: { Self → Shown → Option Completion } = { λ _ _. None };
+    // The completion for what it is shown: left out, nothing is offered.
+    ghost completion_at: { Self → Shown → Completion } = { λ _ _. no_completion };
 
-    // The line and the changes that it makes of an elected text, if it has a way of its own. Where
-    // this is None, the text replaces what stands from the start to the cursor.
-    ghost own_update: { Self → Written → ℕ → List ℕ → Option Written } = { λ _ _ _ _. None };
+    // The line and the changes that it makes of an elected text: left out, the text replaces what
+    // stands from the start to the cursor.
+    ghost updated: { Self → Written → ℕ → List ℕ → Written } = { λ _ written start elected. put_to_cursor written start elected };
 
     /// Returns where the part of `line` that can be completed begins, and the candidates for it.
     /// That part ends at the cursor, which is at byte `pos`.
@@ -108,23 +107,15 @@ pub trait Completer {
     ) -> Result<(usize, Vec<Self::Candidate>)>
         requires { IsCharBoundary line.now pos }
         ensures start { IfOk result (λ r. BeginsIn line.now pos r.0) }
-        ensures answer { IfOk result (λ r. IsUsualOrOwn no_completion
-            (own_completion self.now (shown_in S.History ctx.now line.now pos))
-            (record {
-              start = r.0;
-              offers = map (offer_of Self.Candidate.Candidate) r.1.items;
-            })) }
+        ensures answer { IfOk result (λ r. record {
+          start = r.0;
+          offers = map (offer_of Self.Candidate.Candidate) r.1.items;
+        } ≡ completion_at self.now (shown_in S.History ctx.now line.now pos)) }
         ensures io { IoOnlyIf result (NotBoth (sure self.now) (S.sure ctx.now.history)) }
-        ensures faults { FaultsOnly result }
-    {
-        let _ = line;
-        let _ = pos;
-        let _ = ctx;
-        Ok((0, Vec::new(alloc)))
-    }
+        ensures faults { FaultsOnly result };
 
-    /// Replaces what stands from `start` to the cursor by the text of the elected candidate. The
-    /// cursor then stands after that text.
+    /// Puts the text of the elected candidate in place of what stands from `start` to the cursor,
+    /// as `put_to_cursor` does, or does something else with it.
     ///
     /// # Errors
     /// `Io` if this completer fails, and `Memory` if memory runs out. The line may then be any text
@@ -139,19 +130,20 @@ pub trait Completer {
     ) -> Result<()>
         requires before { start ≤ line.old.cursor }
         requires boundary { IsCharBoundary line.old.text start }
-        ensures written { let old = written_as line.old changes.old in
-            OnOk result (IsUsualOrOwn (put_to_cursor old start elected.now)
-            (own_update self.now old start elected.now) (written_as line.new changes.new)) }
+        ensures written { OnOk result (written_as line.new changes.new
+            ≡ updated self.now (written_as line.old changes.old) start elected.now) }
         ensures told { StillTellsOrGone result changes.old line.old changes.new line.new }
         ensures io { IoOnlyIf result (sure self.now ≡ false) }
-        ensures faults { FaultsOnly result }
-    {
-        put_to_cursor(line, start, elected, changes)
-    }
+        ensures faults { FaultsOnly result };
 }
 
-// Replaces what stands from `start` to the cursor by a text, as `Completer::update` does.
-fn put_to_cursor(
+/// Replaces what stands from `start` to the cursor by a text, as a completer usually does. The
+/// cursor then stands after that text.
+///
+/// # Errors
+/// `Memory` if memory runs out. The line may then be any text with its cursor on a boundary. The
+/// changes still record the line, or there are none.
+pub fn put_to_cursor(
     line: &mut LineBuffer,
     start: usize,
     text: &str,
@@ -165,12 +157,35 @@ fn put_to_cursor(
     Ok(line.replace(start..end, text, changes)?)
 }
 
+/// Returns a completion that offers nothing for a line and its cursor, as `complete` answers where a
+/// completer has no candidates.
+pub fn offer_nothing<C>(alloc: Global, line: &str, pos: usize) -> (usize, Vec<C>)
+    ensures before { result.0 ≤ pos }
+    ensures boundary { IsCharBoundary line.now result.0 }
+    ensures start { result.0 ≡ 0 }
+    ensures offers { result.1.items ≡ [] }
+{
+    let _ = line;
+    let _ = pos;
+    (0, Vec::new(alloc))
+}
+
 impl Completer for () {
     type Candidate = String;
 
     ghost sure = { λ _. true };
 
-    ghost own_update = { λ _ written _ _. Some written };
+    ghost updated = { λ _ written _ _. written };
+
+    fn complete<S: History>(
+        &self,
+        alloc: Global,
+        line: &str,
+        pos: usize,
+        _ctx: &Context<'_, S>,
+    ) -> Result<(usize, Vec<String>)> {
+        Ok(offer_nothing(alloc, line, pos))
+    }
 
     /// Leaves the line as it is.
     fn update(
@@ -193,9 +208,9 @@ impl<C: Completer> Completer for Box<C> {
 
     ghost sure = { λ completer. C.sure completer.value };
 
-    ghost own_completion = { λ completer. C.own_completion completer.value };
+    ghost completion_at = { λ completer. C.completion_at completer.value };
 
-    ghost own_update = { λ completer. C.own_update completer.value };
+    ghost updated = { λ completer. C.updated completer.value };
 
     fn complete<S: History>(
         &self,

@@ -26,10 +26,10 @@ pub trait Helper: Completer + Hinter + Highlighter + Validator {
         → Self.lights one ≡ Self.lights other };
 
     ghost completions_kept: { (one other : Self) → Self.steady one ≡ Self.steady other
-        → Self.own_completion one ≡ Self.own_completion other };
+        → Self.completion_at one ≡ Self.completion_at other };
 
     ghost updates_kept: { (one other : Self) → Self.steady one ≡ Self.steady other
-        → Self.own_update one ≡ Self.own_update other };
+        → Self.updated one ≡ Self.updated other };
 
     ghost hinter_kept: { (one other : Self) → Self.steady one ≡ Self.steady other
         → Self.Hinter.sure one ≡ Self.Hinter.sure other };

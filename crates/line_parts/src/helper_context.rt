@@ -1,11 +1,10 @@
 //! A helper and the context that it is asked in.
 ghost use Rattle.std.specs.Prelude.{◌≡◌, ◌≤◌, ◌&&◌, true, false};
 ghost use Rattle.std.specs.Prelude.{is_some, length, map, option_map, IfOk, IfSome, MatchOption, Some};
-ghost use Rattle.line_config.specs.Usual.{IsUsualOrOwn};
 ghost use Rattle.line_config.specs.Error.{FaultsOnly, IoOnlyIf};
 ghost use Rattle.line_parts.specs.Asks.{for_hint, for_look_up, for_verdict, is_sure};
 ghost use Rattle.line_parts.specs.Consulted.{Unchanged};
-ghost use Rattle.line_parts.specs.Candidate.{BeginsIn, no_completion, offer_of};
+ghost use Rattle.line_parts.specs.Candidate.{BeginsIn, offer_of};
 ghost use Rattle.line_parts.specs.Environment.{hint_for, shown_at, verdict_on};
 ghost use Rattle.line_parts.specs.Helped.{environment_by, sure_by};
 ghost use Rattle.line_parts.specs.Hint.{Suggests, suggestion_of, visible};
@@ -43,7 +42,8 @@ impl<'out, H: Helper, S: History> Consulted for HelperContext<'out, H, S> {
     ghost index = { λ p. p.ctx.index };
 
     ghost sure = { λ p.
-        sure_by H.Hinter.sure H.Validator.sure (S.sure p.ctx.history) p.helper };
+        sure_by H.Hinter.sure H.Validator.sure H.Completer.sure
+        (S.sure p.ctx.history) p.helper };
 
     ghost loan = { λ p. option_map (λ h. h.ghost_name) p.helper };
 }
@@ -66,7 +66,7 @@ impl<'out, H: Helper, S: History> HelperContext<'out, H, S> {
             H.hint_at H.verdict_at H.lights H.Completer helper.entry (S.lines ctx.entry.history) }
         ensures index { ⟦<Self as Consulted>⟧.index result ≡ ctx.entry.index }
         ensures sure { ⟦<Self as Consulted>⟧.sure result ≡ sure_by H.Hinter.sure H.Validator.sure
-            (S.sure ctx.entry.history) helper.entry }
+            H.Completer.sure (S.sure ctx.entry.history) helper.entry }
         ensures loan { ⟦<Self as Consulted>⟧.loan result
             ≡ option_map (λ h. h.ghost_name) helper.entry }
     {
@@ -79,8 +79,8 @@ impl<'out, H: Helper, S: History> HelperContext<'out, H, S> {
         ensures environment { ⟦<Self as Consulted>⟧.environment self.entry ≡ environment_by
             H.hint_at H.verdict_at H.lights H.Completer result.0 (S.lines result.1.history) }
         ensures index { result.1.index ≡ ⟦<Self as Consulted>⟧.index self.entry }
-        ensures sure { ⟦<Self as Consulted>⟧.sure self.entry ≡ sure_by
-            H.Hinter.sure H.Validator.sure (S.sure result.1.history) result.0 }
+        ensures sure { ⟦<Self as Consulted>⟧.sure self.entry ≡ sure_by H.Hinter.sure
+            H.Validator.sure H.Completer.sure (S.sure result.1.history) result.0 }
         ensures loan { option_map (λ h. h.ghost_name) result.0
             ≡ ⟦<Self as Consulted>⟧.loan self.entry }
     {
@@ -94,7 +94,7 @@ impl<'out, H: Helper, S: History> HelperContext<'out, H, S> {
     /// # Errors
     /// `Io` if the hinter or the history fails, and `Memory` if memory runs out. No `Io` comes if
     /// both are sure.
-    #[tactic(auto, unfolding(crate::specs::Helped::hint_by, crate::specs::Helped::hints_surely_by))]
+    #[tactic(auto, unfolding(crate::specs::Helped::hint_by, crate::specs::Helped::is_sure_with))]
     pub fn hint(&self, alloc: Global, line: &LineBuffer) -> Result<Option<H::Hint>>
         ensures answer { let p = ⟦<Self as Consulted>⟧ in Suggests H.Hint.Hint result
             (hint_for (p.environment self.now) line.now.text line.now.cursor (p.index self.now)) }
@@ -112,14 +112,17 @@ impl<'out, H: Helper, S: History> HelperContext<'out, H, S> {
     /// the helper's candidates for it. Without a helper there are none.
     ///
     /// # Errors
-    /// `Io` if the helper or the history fails, and `Memory` if memory runs out.
-    #[tactic(auto, unfolding(crate::specs::Helped::completion_by))]
+    /// `Io` if the completer or the history fails, and `Memory` if memory runs out. No `Io` comes if
+    /// both are sure.
+    #[tactic(auto, unfolding(crate::specs::Helped::completion_by, crate::specs::Helped::is_sure_with))]
     pub fn complete(&self, alloc: Global, line: &LineBuffer) -> Result<(usize, Vec<H::Candidate>)>
         ensures start { IfOk result (λ r. BeginsIn line.now.text line.now.cursor r.0) }
         ensures answer { let p = ⟦<Self as Consulted>⟧ in let w = p.environment self.now in
-            IfOk result (λ r. IsUsualOrOwn no_completion (w.own_completion
-            (shown_at w line.now.text line.now.cursor (p.index self.now)))
-            (record { start = r.0; offers = map (offer_of H.Candidate.Candidate) r.1.items })) }
+            IfOk result (λ r.
+            record { start = r.0; offers = map (offer_of H.Candidate.Candidate) r.1.items }
+            ≡ w.completion_at (shown_at w line.now.text line.now.cursor (p.index self.now))) }
+        ensures io { IoOnlyIf result
+            ((⟦<Self as Consulted>⟧.sure self.now).completions ≡ false) }
         ensures faults { FaultsOnly result }
     {
         let text = line.as_str();
@@ -160,7 +163,7 @@ impl<'out, H: Helper, S: History> HelperContext<'out, H, S> {
     /// Returns whether the helper asks for a full drawing of `line` for its colors. `kind` says why
     /// it is asked. Without a helper the answer is false. This changes no hint, no validation
     /// result and no later answer of this call.
-    #[tactic(auto, unfolding(crate::specs::Helped::hint_by, crate::specs::Helped::hints_surely_by, crate::specs::Helped::is_sure_by, crate::specs::Helped::lights_by, crate::specs::Helped::verdict_by, crate::specs::Helped::completion_by, crate::specs::Helped::update_by))]
+    #[tactic(auto, unfolding(crate::specs::Helped::hint_by, crate::specs::Helped::is_sure_with, crate::specs::Helped::is_sure_by, crate::specs::Helped::lights_by, crate::specs::Helped::verdict_by, crate::specs::Helped::completion_by, crate::specs::Helped::update_by))]
     pub fn highlight_char(&mut self, line: &LineBuffer, kind: CmdKind) -> bool
         ensures lit { result ≡ (⟦<Self as Consulted>⟧.environment self.old).lights
             line.now.text line.now.cursor kind }
@@ -173,7 +176,7 @@ impl<'out, H: Helper, S: History> HelperContext<'out, H, S> {
     }
 
     /// Returns the helper, if there is one: its answers are those that an editor gets here.
-    #[tactic(auto, unfolding(crate::specs::Helped::hint_by, crate::specs::Helped::verdict_by, crate::specs::Helped::lights_by, crate::specs::Helped::update_by))]
+    #[tactic(auto, unfolding(crate::specs::Helped::hint_by, crate::specs::Helped::verdict_by, crate::specs::Helped::lights_by, crate::specs::Helped::update_by, crate::specs::Helped::is_sure_with))]
     pub fn helper(&self) -> Option<&H>
         ensures some { is_some result
             ≡ is_some (⟦<Self as Consulted>⟧.environment self.now).verdict_at }
@@ -181,8 +184,10 @@ impl<'out, H: Helper, S: History> HelperContext<'out, H, S> {
             IfSome result (λ h. (w.hint_at ≡ H.hint_at h.now)
             × (w.verdict_at ≡ Some (H.verdict_at h.now)) × (w.lights ≡ H.lights h.now)) }
         ensures updates { let w = ⟦<Self as Consulted>⟧.environment self.now in
-            MatchOption result (w.own_update ≡ (λ written _ _. Some written))
-            (λ h. w.own_update ≡ H.own_update h.now) }
+            MatchOption result (w.updated ≡ (λ written _ _. written))
+            (λ h. w.updated ≡ H.updated h.now) }
+        ensures sure { (⟦<Self as Consulted>⟧.sure self.now).completions ≡ true
+            → IfSome result (λ h. H.Completer.sure h.now ≡ true) }
     {
         match &self.helper {
             Some(h) => Some(h),

@@ -39,14 +39,14 @@ pub trait Highlighter {
     ghost sure: { Self → Bool };
 
     // What it shows for a line and its cursor, for a prompt and whether it is the line's own, for a
-    // hint, and for a candidate. Where one of these is None, the text is shown as it stands.
-    ghost own_line: { Self → List ℕ → ℕ → Option (List ℕ) } = { λ _ _ _. None };
+    // hint, and for a candidate: left out, the text as it stands.
+    ghost highlighted: { Self → List ℕ → ℕ → List ℕ } = { λ _ line _. line };
 
-    ghost own_prompt: { Self → List ℕ → Bool → Option (List ℕ) } = { λ _ _ _. None };
+    ghost highlighted_prompt: { Self → List ℕ → Bool → List ℕ } = { λ _ prompt _. prompt };
 
-    ghost own_hint: { Self → List ℕ → Option (List ℕ) } = { λ _ _. None };
+    ghost highlighted_hint: { Self → List ℕ → List ℕ } = { λ _ hint. hint };
 
-    ghost own_candidate: { Self → List ℕ → CompletionType → Option (List ℕ) } = { λ _ _ _. None };
+    ghost highlighted_candidate: { Self → List ℕ → CompletionType → List ℕ } = { λ _ candidate _. candidate };
 
     // Whether it asks for a full drawing of a line with its cursor, by what happened to the line.
     ghost lights: { Self → List ℕ → ℕ → CmdKind → Bool };
@@ -60,14 +60,9 @@ pub trait Highlighter {
     /// `Io` if this highlighter fails, and `Memory` if memory runs out. No `Io` comes if this
     /// highlighter is sure.
     fn highlight<'l>(&self, alloc: Global, line: &'l str, pos: usize) -> Result<CowStr<'l>>
-        ensures text { IsShownAs result line.now (own_line self.now line.now pos) }
+        ensures text { IsShownAs result (highlighted self.now line.now pos) }
         ensures io { IoOnlyIf result (sure self.now ≡ false) }
-        ensures faults { FaultsOnly result }
-    {
-        let _ = alloc;
-        let _ = pos;
-        Ok(CowStr::Borrowed(line))
-    }
+        ensures faults { FaultsOnly result };
 
     /// Returns the prompt as it is shown. `default` says whether it is the line's own prompt.
     ///
@@ -80,14 +75,9 @@ pub trait Highlighter {
         prompt: &'p str,
         default: bool,
     ) -> Result<CowStr<'b>>
-        ensures text { IsShownAs result prompt.now (own_prompt self.now prompt.now default) }
+        ensures text { IsShownAs result (highlighted_prompt self.now prompt.now default) }
         ensures io { IoOnlyIf result (sure self.now ≡ false) }
-        ensures faults { FaultsOnly result }
-    {
-        let _ = alloc;
-        let _ = default;
-        Ok(CowStr::Borrowed(prompt))
-    }
+        ensures faults { FaultsOnly result };
 
     /// Returns the hint as it is shown.
     ///
@@ -95,13 +85,9 @@ pub trait Highlighter {
     /// `Io` if this highlighter fails, and `Memory` if memory runs out. No `Io` comes if this
     /// highlighter is sure.
     fn highlight_hint<'h>(&self, alloc: Global, hint: &'h str) -> Result<CowStr<'h>>
-        ensures text { IsShownAs result hint.now (own_hint self.now hint.now) }
+        ensures text { IsShownAs result (highlighted_hint self.now hint.now) }
         ensures io { IoOnlyIf result (sure self.now ≡ false) }
-        ensures faults { FaultsOnly result }
-    {
-        let _ = alloc;
-        Ok(CowStr::Borrowed(hint))
-    }
+        ensures faults { FaultsOnly result };
 
     /// Returns a candidate of a completion as it is shown.
     ///
@@ -114,15 +100,9 @@ pub trait Highlighter {
         candidate: &'c str,
         completion: CompletionType,
     ) -> Result<CowStr<'c>>
-        ensures text { IsShownAs result candidate.now
-            (own_candidate self.now candidate.now completion) }
+        ensures text { IsShownAs result (highlighted_candidate self.now candidate.now completion) }
         ensures io { IoOnlyIf result (sure self.now ≡ false) }
-        ensures faults { FaultsOnly result }
-    {
-        let _ = alloc;
-        let _ = completion;
-        Ok(CowStr::Borrowed(candidate))
-    }
+        ensures faults { FaultsOnly result };
 
     /// Returns whether the line, with the cursor at byte `pos`, has to be drawn in full for its
     /// colors. `kind` says why the line is highlighted again.
@@ -139,6 +119,32 @@ impl Highlighter for () {
     ghost sure = { λ _. true };
 
     ghost lights = { λ _ _ _ _. false };
+
+    fn highlight<'l>(&self, _alloc: Global, line: &'l str, _pos: usize) -> Result<CowStr<'l>> {
+        Ok(CowStr::Borrowed(line))
+    }
+
+    fn highlight_prompt<'b, 's: 'b, 'p: 'b>(
+        &'s self,
+        _alloc: Global,
+        prompt: &'p str,
+        _default: bool,
+    ) -> Result<CowStr<'b>> {
+        Ok(CowStr::Borrowed(prompt))
+    }
+
+    fn highlight_hint<'h>(&self, _alloc: Global, hint: &'h str) -> Result<CowStr<'h>> {
+        Ok(CowStr::Borrowed(hint))
+    }
+
+    fn highlight_candidate<'c>(
+        &self,
+        _alloc: Global,
+        candidate: &'c str,
+        _completion: CompletionType,
+    ) -> Result<CowStr<'c>> {
+        Ok(CowStr::Borrowed(candidate))
+    }
 
     fn highlight_char(&mut self, _line: &str, _pos: usize, _kind: CmdKind) -> bool {
         false
@@ -199,7 +205,7 @@ impl Default for MatchingBracketHighlighter {
 impl Highlighter for MatchingBracketHighlighter {
     ghost sure = { λ _. true };
 
-    ghost own_line = { λ h text _. with_match_lit h text };
+    ghost highlighted = { λ h text _. unwrap_or (with_match_lit h text) text };
 
     ghost lights = { λ _ text cursor kind. is_some (remembered text cursor kind) };
 
@@ -212,15 +218,36 @@ impl Highlighter for MatchingBracketHighlighter {
     /// # Errors
     /// `Memory` if memory runs out.
     fn highlight<'l>(&self, alloc: Global, line: &'l str, _pos: usize) -> Result<CowStr<'l>>
-        ensures shown { IfOk result (λ t.
-            cow_str_bytes t ≡ unwrap_or (with_match_lit self.now line.now) line.now) }
-        ensures text { IsShownAs result line.now (with_match_lit self.now line.now) }
+        ensures text { IsShownAs result
+            (unwrap_or (with_match_lit self.now line.now) line.now) }
         ensures memory { MemoryOnly result }
     {
         match self.lit_place(line) {
             Some(at) => Ok(CowStr::Owned(lit(alloc, line, at)?)),
             None => Ok(CowStr::Borrowed(line)),
         }
+    }
+
+    fn highlight_prompt<'b, 's: 'b, 'p: 'b>(
+        &'s self,
+        _alloc: Global,
+        prompt: &'p str,
+        _default: bool,
+    ) -> Result<CowStr<'b>> {
+        Ok(CowStr::Borrowed(prompt))
+    }
+
+    fn highlight_hint<'h>(&self, _alloc: Global, hint: &'h str) -> Result<CowStr<'h>> {
+        Ok(CowStr::Borrowed(hint))
+    }
+
+    fn highlight_candidate<'c>(
+        &self,
+        _alloc: Global,
+        candidate: &'c str,
+        _completion: CompletionType,
+    ) -> Result<CowStr<'c>> {
+        Ok(CowStr::Borrowed(candidate))
     }
 
     /// Remembers the bracket at the cursor and returns whether there is one: the bracket under the

@@ -16,7 +16,8 @@ pub mod validate;
 
 pub use completion::{
     ArgumentOrOther, Candidate, CommandArguments, Completer, Entry, FilenameCompleter, Lister,
-    Pair, Quote, Words, escape, extract_word, longest_common_prefix, unescape,
+    Pair, Quote, Words, escape, extract_word, longest_common_prefix, offer_nothing, put_to_cursor,
+    unescape,
 };
 pub use consulted::Consulted;
 pub use context::Context;

@@ -30,7 +30,7 @@ map_ok (Err error) P Q then_so holds = tt
 
 -- an elected text came in, and the hint was asked by those who answer alike
 pub elects_so : (w w' : Environment) (start : ℕ) (text : List ℕ) (grown : Bool) (old put new : Draft)
-    → (BeginsIn old.line.text old.line.cursor start → ComesIn w.own_update start text grown (edited_of old) (edited_of put))
+    → (BeginsIn old.line.text old.line.cursor start → ComesIn w.updated start text grown (edited_of old) (edited_of put))
     → ((BeginsIn old.line.text old.line.cursor start → ⊥) → (grown ≡ false) × (put ≡ old))
     → put ≡ with_edited old (edited_of put) → w' ≡ w → new ≡ hinted w' put → Elects w start text grown old new
 elects_so w w' start text grown old put new comes unfit stays same asked =

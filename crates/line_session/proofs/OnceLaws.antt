@@ -8,11 +8,9 @@ use Rattle.line_keys.specs.Item.{Item, key, paste}
 use Rattle.line_keys.specs.declared.keys.KeyEvent.{KeyEvent}
 use Rattle.line_parts.specs.Candidate.{Completion, pair_offer}
 use Rattle.line_parts.specs.Environment.{Environment, shown_at}
-use Rattle.line_parts.specs.Shown.{Shown}
 use Rattle.line_parts.specs.declared.completion.pair.Pair.{Pair}
 use Rattle.line_parts.specs.declared.history.SearchDirection.{SearchDirection}
 use Rattle.line_parts.specs.declared.history.SearchDirection.TheVariants.{Forward, Reverse}
-use Rattle.line_editor.specs.Completing.{IsOffered}
 use Rattle.line_editor.specs.Editor.{Answer, Editor, ended, interrupted, proceeds, submitted}
 use Rattle.line_editor.specs.Input.{Input}
 use Rattle.line_editor.specs.Keymap.{Keymap}
@@ -24,7 +22,7 @@ use Rattle.line_editor.specs.declared.deferred.Deferred.{Deferred}
 use Rattle.line_editor.specs.declared.deferred.Deferred.TheVariants as deferred
 use Rattle.line_editor.proofs.RunLaws.{one-phrase}
 use Rattle.line_session.specs.Completing.{BeginsCompletion, ByCandidates}
-use Rattle.line_session.specs.Pieces.{EndsOnce}
+use Rattle.line_session.specs.Pieces.{EndsOnce, OffersNothing}
 use Rattle.line_session.specs.Searching.{BeginsSearch, Search, Searches, ShowsSearch, before_search, extended, first_search, gone_on, search_cmd, search_value, shortened}
 use Rattle.line_session.specs.Steps.{AnswersCommand, AnswersTurn, DoesInMode, DoesInSearch, DoesItem, ExecutesAndAnswers, ItemTaken, Resumed, Rules, Standing, Steps, TurnFrom, comes_in, once_drawn, reads_no_command}
 use Rattle.line_session.specs.Steps as steps
@@ -87,16 +85,13 @@ none_offered : (candidates : List Pair) → map pair_offer candidates ≡ [] →
 none_offered [] none = refl
 none_offered (first ∷ more) none = absurd (cc)
 
-begins_nothing : (settings : Settings) (environment : Environment) (old new : Draft) (next : Mode) → ((shown : Shown) → environment.own_completion shown ≡ None)
+begins_nothing : (settings : Settings) (environment : Environment) (old new : Draft) (next : Mode) → OffersNothing environment
     → BeginsCompletion settings environment old new next → (new ≡ old) × (next ≡ modes.Editing)
-begins_nothing settings environment old new next none begins = by_offered begins.offered
+begins_nothing settings environment old new next none begins =
+    nothing (none_offered begins.candidates.items (ap (λ (c : Completion). c.offers) (begins.offered ∙ none (shown_at environment old.line.text old.line.cursor old.index))))
   where
     nothing : begins.candidates.items ≡ [] → (new ≡ old) × (next ≡ modes.Editing)
     nothing is = subst (λ items. ByCandidates items settings environment begins.start begins.candidates old new next) is begins.begins
-
-    by_offered : IsOffered environment old (record { start = begins.start; offers = map pair_offer begins.candidates.items }) → (new ≡ old) × (next ≡ modes.Editing)
-    by_offered (inl usual) = nothing (none_offered begins.candidates.items (ap (λ (c : Completion). c.offers) usual))
-    by_offered (inr own) = absurd (let two = sym (none (shown_at environment old.line.text old.line.cursor old.index)) ∙ own in cc)
 
 -- what one command and another leave: the same editor, answer and reading of items
 record Once (new new' : Editor) (next next' : Mode) (answer answer' : Answer) : Type 0 where
@@ -154,7 +149,7 @@ searches_once environment search cmds.GiveUp old new new' next next' one other =
 editor_is : (one other : Editor) → one.draft ≡ other.draft → one.kills ≡ other.kills → one ≡ other
 editor_is one other draft kills = ap (λ d. record { draft = d; kills = one.kills }) draft ∙ ap (λ k. record { draft = other.draft; kills = k }) kills
 
-module _ (by : Rules) (none : (shown : Shown) → by.environment.own_completion shown ≡ None) where
+module _ (by : Rules) (none : OffersNothing by.environment) where
   answers_once : (left : Option Deferred) (old new new' : Draft) (next next' : Mode) → AnswersCommand by.settings by.environment left modes.Editing old new next
       → AnswersCommand by.settings by.environment left modes.Editing old new' next' → OnceLeft new new' next next'
   answers_once None old new new' next next' one other = same_left old new new' next next' modes.Editing refl one other

@@ -16,7 +16,7 @@ use Rattle.line_state.specs.Edited.{Edited, undone}
 use Rattle.line_editor.specs.Completing.{ComesIn, taken_back_once}
 use Rattle.line_editor.specs.Editor.{edited_of}
 use Rattle.line_session.specs.Completing.{Elects, GoesOnTo, ShowsCandidate, before_shown, replacement_of}
-use Rattle.line_session.specs.OneChange.{CompletionIsOneChange, CompletionKeepsTheRest, GivingUpRestores, GoneThrough}
+use Rattle.line_session.specs.OneChange.{CompletionIsOneChange, CompletionKeepsTheRest, GivingUpRestores, GoneThrough, PutsToCursorAlways}
 use Rattle.line_session.specs.OneChange as one_change
 use Rattle.line_session.specs.declared.completing.Completing.{Completing}
 use Rattle.line_session.specs.declared.mode.Mode.{Mode}
@@ -36,8 +36,8 @@ put_back t new p q low within =
     ∙ ap (λ r. a ++ r) (sym (drop_split t p q low)) ∙ take-append-drop p t
 
 -- an elected text that came in is one change, which is taken back
-module _ (own_update : Written → ℕ → List ℕ → Option Written) (start : ℕ) (text : List ℕ) (grown : Bool) (old new : Edited)
-    (none : (written : Written) (start : ℕ) (text : List ℕ) → own_update written start text ≡ None) (low : start ≤ old.line.cursor)
+module _ (updated : Written → ℕ → List ℕ → Written) (start : ℕ) (text : List ℕ) (grown : Bool) (old new : Edited)
+    (usual : (written : Written) (start : ℕ) (text : List ℕ) → updated written start text ≡ put_to_cursor written start text) (low : start ≤ old.line.cursor)
     (within : old.line.cursor ≤ length old.line.text) where
   abbrev shut : Changes
   shut = ended old.changes
@@ -56,22 +56,19 @@ module _ (own_update : Written → ℕ → List ℕ → Option Written) (start :
       ap (λ (s : List Entry × Line). s.1) (closed_group shut (replaced start word text ∷ []) put.line refl (omega arith) refl)
       ∙ ap₂ (λ t c. record { text = t; cursor = c }) (put_back old.line.text text start old.line.cursor low within) (omega (arith, width, low))
 
-  put_text : ComesIn own_update start text grown old new → new.line.text ≡ take start old.line.text ++ text ++ drop old.line.cursor old.line.text
-  put_text comes = elim comes.elected [
-    | inl usual ↦ ap (λ (e : Edited). e.line.text) comes.left ∙ ap (λ (w : Written). w.line.text) usual
-    | inr own ↦ absurd (let two = sym (none (written_as old.line (begun shut)) start text) ∙ own in cc)
-  ]
+  put_text : ComesIn updated start text grown old new → new.line.text ≡ take start old.line.text ++ text ++ drop old.line.cursor old.line.text
+  put_text comes =
+      let elected = comes.elected ∙ usual (written_as old.line (begun shut)) start text in
+      ap (λ (e : Edited). e.line.text) comes.left ∙ ap (λ (w : Written). w.line.text) elected
 
-  put_taken_back : ComesIn own_update start text grown old new → ((undone 1 new).line ≡ old.line) × (grown ≡ true)
-  put_taken_back comes = elim comes.elected [
-    | inl usual ↦ (
-      ap (λ (e : Edited). (undone 1 e).line) (comes.left ∙ ap (λ (w : Written). record { line = w.line; changes = ended w.changes }) usual) ∙ here,
-      comes.told ∙ ap (λ (w : Written). adds_end w.changes.open_groups w.changes.entries) usual,
-    )
-    | inr own ↦ absurd (let two = sym (none (written_as old.line (begun shut)) start text) ∙ own in cc)
-  ]
+  put_taken_back : ComesIn updated start text grown old new → ((undone 1 new).line ≡ old.line) × (grown ≡ true)
+  put_taken_back comes =
+      let elected = comes.elected ∙ usual (written_as old.line (begun shut)) start text in (
+        ap (λ (e : Edited). (undone 1 e).line) (comes.left ∙ ap (λ (w : Written). record { line = w.line; changes = ended w.changes }) elected) ∙ here,
+        comes.told ∙ ap (λ (w : Written). adds_end w.changes.open_groups w.changes.entries) elected,
+      )
 
-module _ (environment : Environment) (old : Draft) (none : (written : Written) (start : ℕ) (text : List ℕ) → environment.own_update written start text ≡ None)
+module _ (environment : Environment) (old : Draft) (usual : PutsToCursorAlways environment)
     (cursor : IsCharBoundary old.line.text old.line.cursor) where
   -- a text that came into a draft of that line: the line from before it
   elected_back : (start : ℕ) (text : List ℕ) (grown : Bool) (bare new : Draft) → KeepsLine old bare → BeginsIn old.line.text old.line.cursor start
@@ -79,7 +76,7 @@ module _ (environment : Environment) (old : Draft) (none : (written : Written) (
   elected_back start text grown bare new same fits elects =
       let fits_there : BeginsIn bare.line.text bare.line.cursor start = subst (λ (l : Line). BeginsIn l.text l.cursor start) (sym same.line) fits in
       let within : bare.line.cursor ≤ length bare.line.text = subst (λ (l : Line). l.cursor ≤ length l.text) (sym same.line) cursor.0 in
-      let back = put_taken_back environment.own_update start text grown (edited_of bare) (edited_of elects.put) none fits_there.0 within (elects.comes fits_there) in
+      let back = put_taken_back environment.updated start text grown (edited_of bare) (edited_of elects.put) usual fits_there.0 within (elects.comes fits_there) in
       let there : KeepsLine old (taken_back_once (hinted environment elects.put)) = record {
         line = back.0 ∙ same.line;
         saved = ap (λ (d : Draft). d.saved) elects.stays ∙ same.saved;
@@ -109,14 +106,14 @@ module _ (environment : Environment) (old : Draft) (none : (written : Written) (
       (subst (λ s. BeginsIn old.line.text old.line.cursor s) (sym goes.start) before.0, goes_back going index draft new mode before.1 before.0 goes)
 
 pub one-change : CompletionIsOneChange
-one-change environment old new going none cursor gone = (gone_back environment old none cursor going new gone).1
+one-change environment old new going usual cursor gone = (gone_back environment old usual cursor going new gone).1
 
 pub giving-up : GivingUpRestores
-giving-up environment old draft new going mode none cursor gone gives =
-    let back = (gone_back environment old none cursor going draft gone).1 in
+giving-up environment old draft new going mode usual cursor gone gives =
+    let back = (gone_back environment old usual cursor going draft gone).1 in
     subst (λ d. KeepsLine old d) (sym gives.0) (record { line = back.line; saved = back.saved; index = back.index })
 
 pub keeps-rest : CompletionKeepsTheRest
-keeps-rest environment start text grown old new none cursor fits elects =
+keeps-rest environment start text grown old new usual cursor fits elects =
     ap (λ (d : Draft). d.line.text) elects.asked
-    ∙ put_text environment.own_update start text grown (edited_of old) (edited_of elects.put) none fits.0 cursor.0 (elects.comes fits)
+    ∙ put_text environment.updated start text grown (edited_of old) (edited_of elects.put) usual fits.0 cursor.0 (elects.comes fits)

@@ -1,9 +1,9 @@
 -- A completion is one change.
-use Rattle.std.specs.Prelude.{◌≡◌, ◌++◌, ℕ, Bool, false, List, take, drop, None, IsCharBoundary}
+use Rattle.std.specs.Prelude.{◌≡◌, ◌++◌, ℕ, Bool, false, List, take, drop, IsCharBoundary}
 use Rattle.line_keys.specs.Model.Draft.{Draft, KeepsLine}
 use Rattle.line_parts.specs.Candidate.{BeginsIn}
 use Rattle.line_parts.specs.Environment.{Environment}
-use Rattle.line_parts.specs.Written.{Written}
+use Rattle.line_parts.specs.Written.{Written, put_to_cursor}
 use Rattle.line_session.specs.Completing.{Elects, GivesUp, GoesOnTo, before_shown}
 use Rattle.line_session.specs.declared.completing.Completing.{Completing}
 use Rattle.line_session.specs.declared.mode.Mode.{Mode}
@@ -16,24 +16,25 @@ pub data GoneThrough (environment : Environment) (start : Draft) : Completing �
   on : {going : Completing} {draft new : Draft} {mode : Mode} → GoneThrough environment start going draft → (index : ℕ)
       → (goes : GoesOnTo environment going index draft new mode) → GoneThrough environment start goes.next new
 
+-- a helper puts each elected text in place of what stands from the start to the cursor
+abbrev pub PutsToCursorAlways : Environment → Type 0
+PutsToCursorAlways environment = (written : Written) (start : ℕ) (text : List ℕ) → environment.updated written start text ≡ put_to_cursor written start text
+
 -- however a completion was gone through, taking back the change by which the shown candidate was put in, if it changed anything, restores
 -- the line from before, with its cursor, where the helper puts texts in place of what stands from the start to the cursor
 abbrev pub CompletionIsOneChange : Type 0
 CompletionIsOneChange = (environment : Environment) (old new : Draft) (going : Completing)
-    → ((written : Written) (start : ℕ) (text : List ℕ) → environment.own_update written start text ≡ None)
-    → IsCharBoundary old.line.text old.line.cursor → GoneThrough environment old going new
+    → PutsToCursorAlways environment → IsCharBoundary old.line.text old.line.cursor → GoneThrough environment old going new
     → KeepsLine old (before_shown going new)
 
 -- and giving up the candidates restores that line
 abbrev pub GivingUpRestores : Type 0
 GivingUpRestores = (environment : Environment) (old draft new : Draft) (going : Completing) (mode : Mode)
-    → ((written : Written) (start : ℕ) (text : List ℕ) → environment.own_update written start text ≡ None)
-    → IsCharBoundary old.line.text old.line.cursor → GoneThrough environment old going draft → GivesUp environment going draft new mode
+    → PutsToCursorAlways environment → IsCharBoundary old.line.text old.line.cursor → GoneThrough environment old going draft → GivesUp environment going draft new mode
     → KeepsLine old new
 
 -- a candidate that was put in leaves the text before the completed part and after the cursor
 abbrev pub CompletionKeepsTheRest : Type 0
 CompletionKeepsTheRest = (environment : Environment) (start : ℕ) (text : List ℕ) (grown : Bool) (old new : Draft)
-    → ((written : Written) (start : ℕ) (text : List ℕ) → environment.own_update written start text ≡ None)
-    → IsCharBoundary old.line.text old.line.cursor → BeginsIn old.line.text old.line.cursor start → Elects environment start text grown old new
+    → PutsToCursorAlways environment → IsCharBoundary old.line.text old.line.cursor → BeginsIn old.line.text old.line.cursor start → Elects environment start text grown old new
     → new.line.text ≡ take start old.line.text ++ text ++ drop old.line.cursor old.line.text

@@ -2,6 +2,8 @@
 use Rattle.std.specs.Prelude.{◌≡◌, ◌≢◌, ◌⊎◌, Bool, true, false, List, [], ◌++◌, None}
 use Rattle.line_keys.specs.Item.{Item}
 use Rattle.line_keys.specs.declared.keys.KeyEvent.{KeyEvent}
+use Rattle.line_parts.specs.Candidate.{no_completion}
+use Rattle.line_parts.specs.Environment.{Environment}
 use Rattle.line_parts.specs.Shown.{Shown}
 use Rattle.line_editor.specs.Editor.{Answer, proceeds}
 use Rattle.line_editor.specs.ItemShown.{any_drawn}
@@ -38,8 +40,12 @@ EndsTheSame = (by : Rules) (start left next end : Standing) (items piece : List 
     → Waited by start items left drawn → GoesOnFrom by left drawn next → StepsEnd by false (with_more piece next) end answer
     → StepsEnd by true (with_more (items ++ piece) start) end answer
 
+-- the helper offers no candidates
+abbrev pub OffersNothing : Environment → Type 0
+OffersNothing environment = (shown : Shown) → environment.completion_at shown ≡ no_completion
+
 -- from one start at which commands are read a line ends once, where the helper offers no candidates: its end and the answer are one
 abbrev pub EndsOnce : Type 0
 EndsOnce = (by : Rules) (over_calls : Bool) (start end end' : Standing) (answer answer' : Answer) → answer ≢ proceeds → answer' ≢ proceeds
-    → ((shown : Shown) → by.environment.own_completion shown ≡ None) → start.mode ≡ Editing
+    → OffersNothing by.environment → start.mode ≡ Editing
     → StepsEnd by over_calls start end answer → StepsEnd by over_calls start end' answer' → (end ≡ end') × (answer ≡ answer')

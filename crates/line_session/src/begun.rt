@@ -184,7 +184,7 @@ fn state_of<'out, O: Write + Drop, H: Helper, S: History + Drop>(
         })
         (environment_by H.hint_at H.verdict_at H.lights H.Completer
         (Some helper.entry) (S.lines setup.now.history))
-        (sure_by H.Hinter.sure H.Validator.sure (S.sure setup.now.history) (Some helper.entry))
+        (sure_by H.Hinter.sure H.Validator.sure H.Completer.sure (S.sure setup.now.history) (Some helper.entry))
         (never_drawn (w.surface screen.entry.now) (w.screen screen.entry.now)
         (string_bytes setup.now.prompt.0))
         (w.failures screen.entry.now) (w.redraws screen.entry.now)

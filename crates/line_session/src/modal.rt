@@ -42,7 +42,7 @@ pub(crate) trait Modal: Refresher {
     fn update_completion(&mut self, start: usize, elected: &str) -> Result<bool>
         ensures comes { let d = Self.draft in
             BeginsIn (d self.old).line.text (d self.old).line.cursor start → IfOk result (λ grown.
-            ComesIn (Self.environment self.old).own_update start elected.now grown
+            ComesIn (Self.environment self.old).updated start elected.now grown
             (edited_of (d self.old)) (edited_of (d self.new))) }
         ensures unfit { let d = Self.draft in
             (BeginsIn (d self.old).line.text (d self.old).line.cursor start → ⊥)

@@ -5,7 +5,7 @@ use Rattle.line_config.specs.declared.prompt.Prompt as prompts
 use Rattle.line_keys.specs.Model.Display.{Measure, corner}
 use Rattle.line_parts.specs.declared.highlight.Highlighter as highlighters
 use Rattle.line_term.specs.Escape.{hold, move_bytes, release}
-use Rattle.line_term.specs.Painted.{AppendsSome, Draws, Handed, Painted, PaintsText, PaintsBehind, PaintsPrompt, RedrawsInFull, clear_drawn, drawing, line_end, wrap_behind, wrap_ending}
+use Rattle.line_term.specs.Painted.{AppendsSome, Draws, Handed, Painted, PaintsText, PaintsBehind, RedrawsInFull, clear_drawn, drawing, line_end, wrap_behind, wrap_ending}
 
 -- seven pieces one after another
 seven : (b₀ b₁ b₂ b₃ b₄ b₅ b₆ b₇ x₁ x₂ x₃ x₄ x₅ x₆ x₇ : List ℕ) → b₁ ≡ b₀ ++ x₁ → b₂ ≡ b₁ ++ x₂ → b₃ ≡ b₂ ++ x₃ → b₄ ≡ b₃ ++ x₄
@@ -15,11 +15,11 @@ seven b₀ b₁ b₂ b₃ b₄ b₅ b₆ b₇ x₁ x₂ x₃ x₄ x₅ x₆ x₇
 module _ {P H : Type 0} (p : prompts.Ghosts P) (h : highlighters.Ghosts H) where
   -- the parts, and what stands between them, are a drawing
   pub draws : (measure : Measure) (handed : Handed P H) (b₀ b₁ b₂ b₃ b₄ b₅ b₆ b₇ : List ℕ)
-      → AppendsSome b₀ b₁ (PaintsPrompt (option_map (λ o s. h.own_prompt o s handed.layout.default_prompt) handed.highlighter) (p.raw_text handed.prompt) (p.own_style handed.prompt))
+      → AppendsSome b₀ b₁ (PaintsText (option_map (λ o. h.highlighted_prompt o (p.styled_text handed.prompt) handed.layout.default_prompt) handed.highlighter) (p.raw_text handed.prompt))
       → b₂ ≡ b₁ ++ wrap_ending measure (p.raw_text handed.prompt) corner handed.layout.prompt_size
-      → AppendsSome b₂ b₃ (PaintsText (option_map (λ o. h.own_line o handed.line.text handed.line.cursor) handed.highlighter) handed.line.text)
+      → AppendsSome b₂ b₃ (PaintsText (option_map (λ o. h.highlighted o handed.line.text handed.line.cursor) handed.highlighter) handed.line.text)
       → b₄ ≡ b₃ ++ wrap_ending measure handed.line.text handed.layout.prompt_size (line_end measure handed.line.text handed.behind handed.layout)
-      → AppendsSome b₄ b₅ (PaintsBehind (option_map h.own_hint handed.highlighter) handed.behind)
+      → AppendsSome b₄ b₅ (PaintsBehind (option_map h.highlighted_hint handed.highlighter) handed.behind)
       → b₆ ≡ b₅ ++ wrap_behind measure handed.behind (line_end measure handed.line.text handed.behind handed.layout) handed.layout.end
       → b₇ ≡ b₆ ++ move_bytes handed.layout.end handed.layout.cursor
       → AppendsSome b₀ b₇ (Draws p h measure handed)

@@ -18,7 +18,7 @@ use Rattle.line_term.specs.Terminal.{IsReady, ShowsPage, Terminal, TurnsPage, pu
 use Rattle.line_term.proofs.GoesLemmas.{coming}
 use Rattle.line_term.proofs.MoveLemmas.{bell-turns, below-sent, hold-turns, marked-turns, release-turns, return-sent, row-sent, steps-sent, turned, typed-turns}
 use Rattle.line_term.proofs.PrintLemmas.{prints-cleaned}
-use Rattle.line_term.proofs.RedrawLemmas.{prompt-prints, text-prints}
+use Rattle.line_term.proofs.RedrawLemmas.{text-prints}
 
 -- what a ready terminal shows
 shows-seen : (columns : ℕ) (t : Terminal) → IsReady t → ShowsPage columns t (seen columns t)
@@ -105,7 +105,7 @@ drawn-ready : (old : Option Layout) → IfSome old (λ l. IsPlace l.cursor) → 
 drawn-ready None place = clear-ready corner (omega arith, omega arith)
 drawn-ready (Some old) place = clear-ready old.cursor place
 
-behind-ready : (behind : Option (List ℕ)) (bytes : List ℕ) (own : Option (List ℕ → Option (List ℕ))) → IfSome behind IsUtf8 → PaintsBehind own behind bytes → KeepsReady bytes
+behind-ready : (behind : Option (List ℕ)) (bytes : List ℕ) (own : Option (List ℕ → List ℕ)) → IfSome behind IsUtf8 → PaintsBehind own behind bytes → KeepsReady bytes
 behind-ready None bytes own utf8 painted = subst KeepsReady (sym painted) none-ready
 behind-ready (Some text) bytes own utf8 painted = λ columns t ready. (text-prints columns t text bytes (option_map (λ o. o text) own) ready utf8 painted).ready
 
@@ -134,11 +134,11 @@ module _ {P H : Type 0} (p : prompts.Ghosts P) (h : highlighters.Ghosts H) where
           (then-ready (painted.prompt ++ wrap_ending measure raw corner layout.prompt_size ++ painted.line) _
           (then-ready (painted.prompt ++ wrap_ending measure raw corner layout.prompt_size) _
           (then-ready painted.prompt _
-          (λ columns t ready. (prompt-prints columns t raw painted.prompt (p.own_style handed.prompt) (option_map (λ o s. h.own_prompt o s layout.default_prompt) handed.highlighter) ready texts.0 redraws.draws.prompt).ready)
+          (λ columns t ready. (text-prints columns t raw painted.prompt (option_map (λ o. h.highlighted_prompt o (p.styled_text handed.prompt) layout.default_prompt) handed.highlighter) ready texts.0 redraws.draws.prompt).ready)
           (wrap-ready measure raw corner layout.prompt_size))
-          (λ columns t ready. (text-prints columns t text painted.line (option_map (λ o. h.own_line o text handed.line.cursor) handed.highlighter) ready texts.1 redraws.draws.line).ready))
+          (λ columns t ready. (text-prints columns t text painted.line (option_map (λ o. h.highlighted o text handed.line.cursor) handed.highlighter) ready texts.1 redraws.draws.line).ready))
           (wrap-ready measure text layout.prompt_size ends))
-          (behind-ready handed.behind painted.behind (option_map h.own_hint handed.highlighter) texts.2 redraws.draws.behind))
+          (behind-ready handed.behind painted.behind (option_map h.highlighted_hint handed.highlighter) texts.2 redraws.draws.behind))
           (wrap-behind-ready measure handed.behind ends layout.end))
           (move-ready layout.end layout.cursor end cursor))
 

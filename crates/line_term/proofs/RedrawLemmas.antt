@@ -20,7 +20,7 @@ use Rattle.line_term.specs.Drawn.{cleaned, colored, uncolored}
 use Rattle.line_term.specs.Escape.{hold, move_bytes, release}
 use Rattle.line_term.specs.Laws.{RedrawsShow, TextsArrive}
 use Rattle.line_term.specs.Page.{IsAt, Page, at, blank, blank_page, picture, put_behind, put_text}
-use Rattle.line_term.specs.Painted.{Draws, Handed, Painted, PaintsText, PaintsBehind, PaintsPrompt, at_once, clear_drawn, drawing, is_coloring, shown_as, wrap, wrap_ending}
+use Rattle.line_term.specs.Painted.{Draws, Handed, Painted, PaintsText, PaintsBehind, at_once, clear_drawn, drawing, is_coloring, shown_as, wrap, wrap_ending}
 use Rattle.line_term.specs.Shown.{IsMeasured, IsPlace, IsShown, first_row, within}
 use Rattle.line_term.specs.Terminal.{IsReady, ShowsPage, Terminal, put, seen, sent, without_rest}
 use Rattle.line_term.proofs.AlikeLemmas.{Alike, alike-picture}
@@ -41,17 +41,11 @@ shown-prints columns t text shown bytes ready utf8 is =
     by_test true false e = prints-cleaned columns t text ready utf8
     by_test true true e = prints-colored columns t text shown ready utf8 ((bytes_eq-Decides (uncolored shown) (chars text)).0 e)
 
-pub text-prints : (columns : ℕ) (t : Terminal) (text bytes : List ℕ) (own : Option (Option (List ℕ))) → IsReady t → IsUtf8 text
+pub text-prints : (columns : ℕ) (t : Terminal) (text bytes : List ℕ) (own : Option (List ℕ)) → IsReady t → IsUtf8 text
     → PaintsText own text bytes → Prints columns t text (sent columns t bytes)
 text-prints columns t text bytes None ready utf8 painted =
     subst (λ b. Prints columns t text (sent columns t b)) (sym painted) (prints-cleaned columns t text ready utf8)
-text-prints columns t text bytes (Some own) ready utf8 painted = shown-prints columns t text painted.0 bytes ready utf8 painted.1.1
-
-pub prompt-prints : (columns : ℕ) (t : Terminal) (raw bytes : List ℕ) (style : Option (List ℕ)) (own : Option (List ℕ → Option (List ℕ)))
-    → IsReady t → IsUtf8 raw → PaintsPrompt own raw style bytes → Prints columns t raw (sent columns t bytes)
-prompt-prints columns t raw bytes style None ready utf8 painted =
-    subst (λ b. Prints columns t raw (sent columns t b)) (sym painted) (prints-cleaned columns t raw ready utf8)
-prompt-prints columns t raw bytes style (Some own) ready utf8 painted = shown-prints columns t raw painted.1 bytes ready utf8 painted.2.1.1
+text-prints columns t text bytes (Some shown) ready utf8 painted = shown-prints columns t text shown bytes ready utf8 painted
 
 -- ---- the parts one after another
 
@@ -89,7 +83,7 @@ abbrev wrap_more : Measure → Option (List ℕ) → Position → List ℕ
 wrap_more measure None place = []
 wrap_more measure (Some text) place = wrap measure text place
 
-behind-arrives : (columns base : ℕ) (place : Position) (page : Page) (t : Terminal) (behind : Option (List ℕ)) (bytes : List ℕ) (own : Option (List ℕ → Option (List ℕ)))
+behind-arrives : (columns base : ℕ) (place : Position) (page : Page) (t : Terminal) (behind : Option (List ℕ)) (bytes : List ℕ) (own : Option (List ℕ → List ℕ))
     → IfSome behind IsUtf8 → place.col < columns → (behind_end columns place behind).row < 65535 → PaintsBehind own behind bytes
     → ArrivesAt columns base place page t
     → ArrivesAt columns base (behind_end columns place behind) (put_behind columns page behind) (sent columns (sent columns t bytes) (wrap_more (measured columns) behind place))
@@ -214,13 +208,13 @@ module _ {P H : Type 0} (p : prompts.Ghosts P) (h : highlighters.Ghosts H) where
       let col₃ : layout.end.col < columns = omega (arith, behind-below columns p₂ behind col₂, ap (λ (q : Position). q.col) ends) in
       let front = subst (λ q. ArrivesAt columns base q (put_text columns page raw) (sent columns (sent columns t painted.prompt) (wrap measure raw corner))) (sym is.prompt_end)
       (text-arrives columns base corner page t (sent columns t painted.prompt) raw is.texts.0 some first_at from
-      (prompt-prints columns t raw painted.prompt (p.own_style handed.prompt) (option_map (λ o s. h.own_prompt o s layout.default_prompt) highlighter)
+      (text-prints columns t raw painted.prompt (option_map (λ o. h.highlighted_prompt o (p.styled_text handed.prompt) layout.default_prompt) highlighter)
       from.shows.ready is.texts.0 draws.prompt)) in
       let t₁ = sent columns (sent columns t painted.prompt) (wrap measure raw corner) in
       let middle = text-arrives columns base p₁ (put_text columns page raw) t₁ (sent columns t₁ painted.line) text is.texts.1 col₁ second front
-      (text-prints columns t₁ text painted.line (option_map (λ o. h.own_line o text handed.line.cursor) highlighter) front.shows.ready is.texts.1 draws.line) in
+      (text-prints columns t₁ text painted.line (option_map (λ o. h.highlighted o text handed.line.cursor) highlighter) front.shows.ready is.texts.1 draws.line) in
       let t₂ = sent columns (sent columns t₁ painted.line) (wrap measure text p₁) in
-      let back = behind-arrives columns base p₂ (put_text columns (put_text columns page raw) text) t₂ behind painted.behind (option_map h.own_hint highlighter) is.texts.2 col₂ last
+      let back = behind-arrives columns base p₂ (put_text columns (put_text columns page raw) text) t₂ behind painted.behind (option_map h.highlighted_hint highlighter) is.texts.2 col₂ last
       draws.behind middle in
       let t₃ = sent columns (sent columns t₂ painted.behind) (wrap_more measure behind p₂) in
       let end = picture columns page raw text behind in

@@ -3,7 +3,7 @@ ghost use Rattle.std.specs.Prelude.{◌≡◌, ◌++◌, [], IfSome, OnOk, optio
 ghost use Rattle.line_config.specs.Error.{FaultsOnly, MemoryOnly};
 ghost use Rattle.line_term.specs.Escape.{clear_from};
 ghost use Rattle.line_term.specs.Shown.{IsPlace};
-ghost use Rattle.line_term.specs.Painted.{AppendsSome, PaintsText, PaintsBehind, PaintsPrompt, asked, clear_drawn, shown_as};
+ghost use Rattle.line_term.specs.Painted.{AppendsSome, PaintsText, PaintsBehind, asked, clear_drawn, shown_as};
 
 use crate::drawn::{is_coloring, push_cleaned, push_colored};
 use crate::escape::push_steps;
@@ -25,9 +25,8 @@ pub(crate) fn push_prompt<P: Prompt, H: Highlighter>(
     highlighter: Option<&H>,
 ) -> Result<()>
     ensures appends { OnOk result (AppendsSome (string_bytes bytes.old) (string_bytes bytes.new)
-        (PaintsPrompt (option_map (λ h s. H.own_prompt h s default)
-        (option_map (λ h. h.now) highlighter.entry))
-        (P.raw_text prompt.now) (P.own_style prompt.now))) }
+        (PaintsText (option_map (λ h. H.highlighted_prompt h (P.styled_text prompt.now) default)
+        (option_map (λ h. h.now) highlighter.entry)) (P.raw_text prompt.now))) }
     ensures faults { FaultsOnly result }
 {
     match highlighter {
@@ -47,7 +46,7 @@ pub(crate) fn push_line<H: Highlighter>(
     highlighter: Option<&H>,
 ) -> Result<()>
     ensures appends { OnOk result (AppendsSome (string_bytes bytes.old) (string_bytes bytes.new)
-        (PaintsText (option_map (λ h. H.own_line h line.now.text line.now.cursor)
+        (PaintsText (option_map (λ h. H.highlighted h line.now.text line.now.cursor)
         (option_map (λ h. h.now) highlighter.entry)) line.now.text)) }
     ensures faults { FaultsOnly result }
 {
@@ -68,7 +67,7 @@ pub(crate) fn push_behind<H: Highlighter>(
     highlighter: Option<&H>,
 ) -> Result<()>
     ensures appends { OnOk result (AppendsSome (string_bytes bytes.old) (string_bytes bytes.new)
-        (PaintsBehind (option_map H.own_hint (option_map (λ h. h.now) highlighter.entry))
+        (PaintsBehind (option_map H.highlighted_hint (option_map (λ h. h.now) highlighter.entry))
         (option_map (λ s. s.now) text.entry))) }
     ensures faults { FaultsOnly result }
 {
@@ -86,7 +85,7 @@ fn push_text<H: Highlighter>(
     highlighter: Option<&H>,
 ) -> Result<()>
     ensures appends { OnOk result (AppendsSome (string_bytes bytes.old) (string_bytes bytes.new)
-        (PaintsText (option_map (λ h. H.own_hint h text.now)
+        (PaintsText (option_map (λ h. H.highlighted_hint h text.now)
         (option_map (λ h. h.now) highlighter.entry)) text.now)) }
     ensures faults { FaultsOnly result }
 {

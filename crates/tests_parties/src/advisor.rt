@@ -6,10 +6,10 @@ ghost use Rattle.tests_parties.specs.Advisor.{is_lit_for, shown_after};
 use crate::countdown::Countdown;
 use crate::fault::{Fault, USUAL};
 use line_buffer::{Changeset, LineBuffer};
-use line_config::Result;
+use line_config::{CompletionType, Result};
 use line_parts::{
     CmdKind, Completer, Context, Helper, Highlighter, Hint, Hinter, History, ValidationContext,
-    ValidationResult, Validator,
+    ValidationResult, Validator, offer_nothing,
 };
 use std::alloc::Global;
 use std::borrow::CowStr;
@@ -90,7 +90,17 @@ impl Completer for Advisor {
 
     ghost sure = { λ _. true };
 
-    ghost own_update = { λ _ written _ _. Some written };
+    ghost updated = { λ _ written _ _. written };
+
+    fn complete<S: History>(
+        &self,
+        alloc: Global,
+        line: &str,
+        pos: usize,
+        _ctx: &Context<'_, S>,
+    ) -> Result<(usize, Vec<String>)> {
+        Ok(offer_nothing(alloc, line, pos))
+    }
 
     fn update(
         &self,
@@ -133,7 +143,7 @@ impl Highlighter for Advisor {
 
     ghost steady = { λ advisor. record advisor { kinds = (None, None, None, None) } };
 
-    ghost own_line = { λ advisor _ _. Some (shown_after advisor.kinds.0) };
+    ghost highlighted = { λ advisor _ _. shown_after advisor.kinds.0 };
 
     fn highlight<'l>(&self, _alloc: Global, _line: &'l str, _pos: usize) -> Result<CowStr<'l>> {
         match self.kinds.0 {
@@ -142,6 +152,28 @@ impl Highlighter for Advisor {
             Some(CmdKind::Other) => Ok(CowStr::Borrowed("after an edit")),
             Some(CmdKind::ForcedRefresh) => Ok(CowStr::Borrowed("for the last time")),
         }
+    }
+
+    fn highlight_prompt<'b, 's: 'b, 'p: 'b>(
+        &'s self,
+        _alloc: Global,
+        prompt: &'p str,
+        _default: bool,
+    ) -> Result<CowStr<'b>> {
+        Ok(CowStr::Borrowed(prompt))
+    }
+
+    fn highlight_hint<'h>(&self, _alloc: Global, hint: &'h str) -> Result<CowStr<'h>> {
+        Ok(CowStr::Borrowed(hint))
+    }
+
+    fn highlight_candidate<'c>(
+        &self,
+        _alloc: Global,
+        candidate: &'c str,
+        _completion: CompletionType,
+    ) -> Result<CowStr<'c>> {
+        Ok(CowStr::Borrowed(candidate))
     }
 
     fn highlight_char(&mut self, _line: &str, _pos: usize, kind: CmdKind) -> bool {

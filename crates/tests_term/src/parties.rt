@@ -1,8 +1,8 @@
 //! Those whom a session asks, of whose calls one can fail.
-ghost use Rattle.std.specs.Prelude.{Some, false, map, string_bytes};
+ghost use Rattle.std.specs.Prelude.{false, map, string_bytes};
 
 use line_buffer::{Changeset, LineBuffer};
-use line_config::Result;
+use line_config::{CompletionType, Result};
 use line_parts::{CmdKind, Completer, Context, Highlighter, History, SteadyHighlighter, Words};
 use std::alloc::Global;
 use std::borrow::CowStr;
@@ -52,8 +52,8 @@ impl Completer for Party {
 
     ghost sure = { λ _. false };
 
-    ghost own_completion = { λ party shown.
-        Some (completed_among (map string_bytes party.words.words.items) shown.text shown.cursor) };
+    ghost completion_at = { λ party shown.
+        completed_among (map string_bytes party.words.words.items) shown.text shown.cursor };
 
     fn complete<S: History>(
         &self,
@@ -101,6 +101,15 @@ impl Highlighter for Party {
     fn highlight_hint<'h>(&self, _alloc: Global, hint: &'h str) -> Result<CowStr<'h>> {
         self.calls.call()?;
         Ok(CowStr::Borrowed(hint))
+    }
+
+    fn highlight_candidate<'c>(
+        &self,
+        _alloc: Global,
+        candidate: &'c str,
+        _completion: CompletionType,
+    ) -> Result<CowStr<'c>> {
+        Ok(CowStr::Borrowed(candidate))
     }
 
     fn highlight_char(&mut self, _line: &str, _pos: usize, _kind: CmdKind) -> bool {

@@ -1,7 +1,7 @@
 //! Candidates for a part of the line, and how one is put into it. Nothing here is drawn.
 ghost use Rattle.std.specs.Prelude.{◌≡◌, false, map, IfOk, OnErr, OnOk};
 ghost use Rattle.line_buffer.specs.Changes.{no_changes};
-ghost use Rattle.line_config.specs.Error.{FaultsOnly, MemoryOnly};
+ghost use Rattle.line_config.specs.Error.{FaultsOnly, IoOnlyIf, MemoryOnly};
 ghost use Rattle.line_editor.specs.Completing.{ComesIn, IsOffered, taken_back_once};
 ghost use Rattle.line_editor.specs.Editor.{edited_of, with_edited};
 ghost use Rattle.line_keys.specs.Model.Draft.{start_text};
@@ -26,13 +26,16 @@ impl<'out, 'prompt, W: Renderer, H: Helper, P: Prompt, S: History> State<
     /// and the helper's candidates for it. Without a helper there are none.
     ///
     /// # Errors
-    /// `Io` if the helper fails, or the history that it asks, and `Memory` if memory runs out.
+    /// `Io` if the helper fails, or the history that it asks, and `Memory` if memory runs out. No
+    /// `Io` comes if both are sure.
     pub fn completions(&self) -> Result<(usize, Vec<H::Candidate>)>
         ensures start { let line = (⟦<Self as EditorState>⟧.draft self.now).line in
             IfOk result (λ r. BeginsIn line.text line.cursor r.0) }
         ensures offered { let e = ⟦<Self as EditorState>⟧ in
             IfOk result (λ r. IsOffered (e.environment self.now) (e.draft self.now)
             (record { start = r.0; offers = map (offer_of H.Candidate.Candidate) r.1.items })) }
+        ensures io { IoOnlyIf result
+            ((⟦<Self as EditorState>⟧.sure self.now).completions ≡ false) }
         ensures faults { FaultsOnly result }
     {
         self.context.complete(self.alloc, self.line.edited.line())
@@ -49,7 +52,7 @@ impl<'out, 'prompt, W: Renderer, H: Helper, P: Prompt, S: History> State<
     pub fn update_completion(&mut self, start: usize, elected: &str) -> Result<bool>
         ensures comes { let e = ⟦<Self as EditorState>⟧ in let d = e.draft in
             BeginsIn (d self.old).line.text (d self.old).line.cursor start → IfOk result (λ grown.
-            ComesIn (e.environment self.old).own_update start elected.now grown
+            ComesIn (e.environment self.old).updated start elected.now grown
             (edited_of (d self.old)) (edited_of (d self.new))) }
         ensures unfit { let d = ⟦<Self as EditorState>⟧.draft in
             (BeginsIn (d self.old).line.text (d self.old).line.cursor start → ⊥)
@@ -59,6 +62,8 @@ impl<'out, 'prompt, W: Renderer, H: Helper, P: Prompt, S: History> State<
         ensures start { let d = ⟦<Self as EditorState>⟧.draft in OnOk result
             (start_text (d self.new) ≡ start_text (d self.old)) }
         ensures undrawn { Undrawn ⟦<Self as EditorState>⟧ self.old self.new }
+        ensures io { IoOnlyIf result
+            ((⟦<Self as EditorState>⟧.sure self.old).completions ≡ false) }
         ensures faults { FaultsOnly result }
     {
         let line = self.line.edited.line();

@@ -3,12 +3,12 @@ ghost use Rattle.line_editor.specs.Outcomes.{DoesCommand};
 ghost use Rattle.line_keys.specs.Command as commands;
 ghost use Rattle.std.specs.Prelude.{◌≡◌, ◌+◌, ◌≤◌, ◌⊎◌, IsCharBoundary, false, if◌then◌else◌, not, is_some, length, IfOk, OnOk, OnErr};
 ghost use Rattle.line_buffer.specs.Line.{before};
-ghost use Rattle.line_config.specs.Error.{FaultsOnly, MemoryOnly};
+ghost use Rattle.line_config.specs.Error.{FaultsOnly, IoOnlyIf, MemoryOnly};
 ghost use Rattle.line_editor.specs.HistoryMoves.{asked_back, asked_for, asked_in_search, asked_on, asked_to_end, at_index, boundary_or_end, come_back, end_shown, entry_grows, entry_put, first_shown, found_shown, line_shown, next_shown, previous_shown, restored, returned_to, saved_at_end, search_of, search_shown, showing, way_ends};
 ghost use Rattle.line_keys.specs.Model.Draft.{start_text};
 ghost use Rattle.line_keys.specs.Model.Drawing.{Does, DoesAsking, DoesInTwo, DrewNothing, Paints, Undrawn, drawn_if, with_hint};
 ghost use Rattle.line_keys.specs.Model.Fault.{LosesChanges};
-ghost use Rattle.line_parts.specs.Asks.{for_line};
+ghost use Rattle.line_parts.specs.Asks.{for_line, for_look_up, is_sure};
 ghost use Rattle.line_parts.specs.History.{starting_with};
 ghost use Rattle.line_parts.specs.declared.history.SearchDirection.TheVariants.{Forward, Reverse};
 
@@ -100,6 +100,8 @@ impl<'out, 'prompt, W: Renderer, H: Helper, P: Prompt, S: History> State<
         ensures hint { let d = ⟦<Self as EditorState>⟧.draft in
             (d self.new).hint ≡ (d self.old).hint }
         ensures undrawn { Undrawn ⟦<Self as EditorState>⟧ self.old self.new }
+        ensures io { IoOnlyIf result
+            (is_sure (⟦<Self as EditorState>⟧.sure self.old) for_look_up ≡ false) }
         ensures faults { FaultsOnly result }
     {
         let history = self.context.history();

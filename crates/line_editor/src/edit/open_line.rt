@@ -100,7 +100,7 @@ impl<'out, 'prompt, W: Renderer, H: Helper, P: Prompt, S: History> State<
         ensures environment { let w = ⟦<Self as EditorState>⟧.environment self.entry in
             w ≡ environment_by H.hint_at H.verdict_at H.lights H.Completer result.2 w.lines }
         ensures sure { let s = ⟦<Self as EditorState>⟧.sure self.entry in
-            s ≡ sure_by H.Hinter.sure H.Validator.sure s.history result.2 }
+            s ≡ sure_by H.Hinter.sure H.Validator.sure H.Completer.sure s.history result.2 }
         ensures within { result.0.draft.index
             ≤ length (⟦<Self as EditorState>⟧.environment self.entry).lines }
     {
@@ -138,7 +138,7 @@ impl<'out, 'prompt, W: Renderer, H: Helper, P: Prompt, S: History> State<
         ensures { EditorBegins ⟦<Self as EditorState>⟧ result kept.draft
             (environment_by H.hint_at H.verdict_at H.lights H.Completer
             helper.entry (S.lines history.now))
-            (sure_by H.Hinter.sure H.Validator.sure (S.sure history.now) helper.entry)
+            (sure_by H.Hinter.sure H.Validator.sure H.Completer.sure (S.sure history.now) helper.entry)
             (display_on kept.drawing
             (W.surface out.old) (W.screen out.old) (P.raw_text prompt.now))
             (W.failures out.old) (W.redraws out.old)

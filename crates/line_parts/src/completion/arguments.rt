@@ -59,15 +59,15 @@ impl<A: Completer + Drop, B: Completer + Drop> Completer for CommandArguments<A,
 
     ghost sure = { λ completer. A.sure completer.arguments && B.sure completer.others };
 
-    ghost own_completion = { λ completer shown.
+    ghost completion_at = { λ completer shown.
         if is_argument (string_bytes completer.command) (take shown.cursor shown.text)
-        then A.own_completion completer.arguments shown
-        else B.own_completion completer.others shown };
+        then A.completion_at completer.arguments shown
+        else B.completion_at completer.others shown };
 
-    ghost own_update = { λ completer written start elected.
+    ghost updated = { λ completer written start elected.
         if is_argument (string_bytes completer.command) (take written.line.cursor written.line.text)
-        then A.own_update completer.arguments written start elected
-        else B.own_update completer.others written start elected };
+        then A.updated completer.arguments written start elected
+        else B.updated completer.others written start elected };
 
     fn complete<S: History>(
         &self,

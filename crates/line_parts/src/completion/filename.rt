@@ -140,8 +140,8 @@ impl<L: Lister> Completer for FilenameCompleter<L> {
 
     ghost sure = { λ completer. L.sure (lister_of completer) };
 
-    ghost own_completion = { λ completer shown.
-        Some (ordered (completed_by L.listing completer shown.text shown.cursor)) };
+    ghost completion_at = { λ completer shown.
+        ordered (completed_by L.listing completer shown.text shown.cursor) };
 
     fn complete<S: History>(
         &self,

@@ -1,12 +1,13 @@
 //! A completer of the words of a list.
-ghost use Rattle.std.specs.Prelude.{◌≡◌, true, Some, map, IfOk, string_bytes};
+ghost use Rattle.std.specs.Prelude.{◌≡◌, true, map, IfOk, string_bytes};
 ghost use Rattle.line_config.specs.Error.{MemoryOnly};
 ghost use Rattle.line_parts.specs.WordList.{beginning_with, breaks_words};
 
-use crate::completion::Completer;
 use crate::completion::escapes::extract_word;
+use crate::completion::{Completer, put_to_cursor};
 use crate::context::Context;
 use crate::history::History;
+use line_buffer::{Changeset, LineBuffer};
 use line_config::Result;
 use std::alloc::Global;
 
@@ -25,8 +26,8 @@ impl Completer for Words {
 
     ghost sure = { λ _. true };
 
-    ghost own_completion = { λ words shown.
-        Some (completed_among (map string_bytes words.words.items) shown.text shown.cursor) };
+    ghost completion_at = { λ words shown.
+        completed_among (map string_bytes words.words.items) shown.text shown.cursor };
 
     fn complete<S: History>(
         &self,
@@ -44,6 +45,16 @@ impl Completer for Words {
             { breaks_words(c) },
         );
         Ok((start, beginning_with(alloc, self.words.as_slice(), word)?))
+    }
+
+    fn update(
+        &self,
+        line: &mut LineBuffer,
+        start: usize,
+        elected: &str,
+        changes: &mut Changeset,
+    ) -> Result<()> {
+        put_to_cursor(line, start, elected, changes)
     }
 }
 

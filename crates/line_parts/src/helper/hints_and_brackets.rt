@@ -5,15 +5,17 @@ ghost use Rattle.line_parts.specs.Hint.{suggested};
 ghost use Rattle.line_parts.specs.HistoryHint.{history_hint};
 ghost use Rattle.line_parts.specs.Verdict.{valid};
 
-use crate::completion::Completer;
+use crate::completion::{Completer, offer_nothing, put_to_cursor};
 use crate::context::Context;
 use crate::helper::Helper;
 use crate::highlight::{CmdKind, Highlighter};
 use crate::hint::{Hinter, HistoryHinter};
 use crate::history::History;
 use crate::validate::{MatchingBracketValidator, ValidationContext, ValidationResult, Validator};
-use line_config::Result;
+use line_buffer::{Changeset, LineBuffer};
+use line_config::{CompletionType, Result};
 use std::alloc::Global;
+use std::borrow::CowStr;
 
 /// Hints from the history and checks the brackets of a line, each where it is switched on.
 #[derive(Clone, Copy)]
@@ -40,6 +42,26 @@ impl Completer for HintsAndBrackets {
     type Candidate = String;
 
     ghost sure = { λ _. true };
+
+    fn complete<S: History>(
+        &self,
+        alloc: Global,
+        line: &str,
+        pos: usize,
+        _ctx: &Context<'_, S>,
+    ) -> Result<(usize, Vec<String>)> {
+        Ok(offer_nothing(alloc, line, pos))
+    }
+
+    fn update(
+        &self,
+        line: &mut LineBuffer,
+        start: usize,
+        elected: &str,
+        changes: &mut Changeset,
+    ) -> Result<()> {
+        put_to_cursor(line, start, elected, changes)
+    }
 }
 
 impl Hinter for HintsAndBrackets {
@@ -69,6 +91,32 @@ impl Highlighter for HintsAndBrackets {
     ghost sure = { λ _. true };
 
     ghost lights = { λ _ _ _ _. false };
+
+    fn highlight<'l>(&self, _alloc: Global, line: &'l str, _pos: usize) -> Result<CowStr<'l>> {
+        Ok(CowStr::Borrowed(line))
+    }
+
+    fn highlight_prompt<'b, 's: 'b, 'p: 'b>(
+        &'s self,
+        _alloc: Global,
+        prompt: &'p str,
+        _default: bool,
+    ) -> Result<CowStr<'b>> {
+        Ok(CowStr::Borrowed(prompt))
+    }
+
+    fn highlight_hint<'h>(&self, _alloc: Global, hint: &'h str) -> Result<CowStr<'h>> {
+        Ok(CowStr::Borrowed(hint))
+    }
+
+    fn highlight_candidate<'c>(
+        &self,
+        _alloc: Global,
+        candidate: &'c str,
+        _completion: CompletionType,
+    ) -> Result<CowStr<'c>> {
+        Ok(CowStr::Borrowed(candidate))
+    }
 
     fn highlight_char(&mut self, _line: &str, _pos: usize, _kind: CmdKind) -> bool {
         false

@@ -41,9 +41,9 @@ impl<
 
     ghost sure = { λ parts. C.sure parts.completer };
 
-    ghost own_completion = { λ parts. C.own_completion parts.completer };
+    ghost completion_at = { λ parts. C.completion_at parts.completer };
 
-    ghost own_update = { λ parts. C.own_update parts.completer };
+    ghost updated = { λ parts. C.updated parts.completer };
 
     fn complete<S: History>(
         &self,
@@ -93,13 +93,13 @@ impl<
 > Highlighter for Parts<C, N, L, V> {
     ghost sure = { λ parts. L.sure parts.highlighter };
 
-    ghost own_line = { λ parts. L.own_line parts.highlighter };
+    ghost highlighted = { λ parts. L.highlighted parts.highlighter };
 
-    ghost own_prompt = { λ parts. L.own_prompt parts.highlighter };
+    ghost highlighted_prompt = { λ parts. L.highlighted_prompt parts.highlighter };
 
-    ghost own_hint = { λ parts. L.own_hint parts.highlighter };
+    ghost highlighted_hint = { λ parts. L.highlighted_hint parts.highlighter };
 
-    ghost own_candidate = { λ parts. L.own_candidate parts.highlighter };
+    ghost highlighted_candidate = { λ parts. L.highlighted_candidate parts.highlighter };
 
     ghost lights = { λ parts. L.lights parts.highlighter };
 
@@ -169,9 +169,9 @@ impl<C: Completer + Drop, N: Hinter + Drop, L: SteadyHighlighter + Drop, V: Vali
     ghost lights_kept = { λ one other same. L.lights_steady one.highlighter other.highlighter
         (ap (λ parts. parts.highlighter) same) };
 
-    ghost completions_kept = { λ _ _ same. ap (λ parts. C.own_completion parts.completer) same };
+    ghost completions_kept = { λ _ _ same. ap (λ parts. C.completion_at parts.completer) same };
 
-    ghost updates_kept = { λ _ _ same. ap (λ parts. C.own_update parts.completer) same };
+    ghost updates_kept = { λ _ _ same. ap (λ parts. C.updated parts.completer) same };
 
     ghost hinter_kept = { λ _ _ same. ap (λ parts. N.sure parts.hinter) same };
 

@@ -2,7 +2,7 @@
 ghost use Rattle.std.specs.Prelude.{◌≡◌, Some, None, true, if◌then◌else◌, ◌&&◌};
 
 use crate::highlight::{CmdKind, Highlighter, MatchingBracketHighlighter, SteadyHighlighter};
-use line_config::Result;
+use line_config::{CompletionType, Result};
 use std::alloc::Global;
 use std::borrow::CowStr;
 
@@ -32,11 +32,11 @@ impl Highlighter for DimHints {
 
     ghost sure = { λ _. true };
 
-    ghost own_line = { λ h text cursor. if h.lights_brackets
-        then ⟦<MatchingBracketHighlighter as Highlighter>⟧.own_line h.brackets text cursor
-        else None };
+    ghost highlighted = { λ h text cursor. if h.lights_brackets
+        then ⟦<MatchingBracketHighlighter as Highlighter>⟧.highlighted h.brackets text cursor
+        else text };
 
-    ghost own_hint = { λ _ hint. Some (dim hint) };
+    ghost highlighted_hint = { λ _ hint. dim hint };
 
     ghost lights = { λ h text cursor kind. h.lights_brackets
         && ⟦<MatchingBracketHighlighter as Highlighter>⟧.lights h.brackets text cursor kind };
@@ -52,8 +52,26 @@ impl Highlighter for DimHints {
         Ok(CowStr::Borrowed(line))
     }
 
+    fn highlight_prompt<'b, 's: 'b, 'p: 'b>(
+        &'s self,
+        _alloc: Global,
+        prompt: &'p str,
+        _default: bool,
+    ) -> Result<CowStr<'b>> {
+        Ok(CowStr::Borrowed(prompt))
+    }
+
     fn highlight_hint<'h>(&self, alloc: Global, hint: &'h str) -> Result<CowStr<'h>> {
         Ok(CowStr::Owned(format!(in alloc; "\x1b[2m{hint}\x1b[0m")?))
+    }
+
+    fn highlight_candidate<'c>(
+        &self,
+        _alloc: Global,
+        candidate: &'c str,
+        _completion: CompletionType,
+    ) -> Result<CowStr<'c>> {
+        Ok(CowStr::Borrowed(candidate))
     }
 
     fn highlight_char(&mut self, line: &str, pos: usize, kind: CmdKind) -> bool {

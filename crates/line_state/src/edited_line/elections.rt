@@ -21,7 +21,7 @@ impl EditedLine {
         requires before { start ≤ self.old.line.cursor }
         requires boundary { IsCharBoundary self.old.line.text start }
         ensures elected { OnOk result
-            (IsElected (C.own_update completer.now) start elected.now self.old self.new) }
+            (IsElected (C.updated completer.now) start elected.now self.old self.new) }
         ensures first { OnOk result (KeepsFirst self.old self.new) }
         ensures err { OnErr result
             (KeepsFirst self.old self.new ⊎ (self.new.changes ≡ no_changes)) }

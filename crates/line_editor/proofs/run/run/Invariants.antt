@@ -24,8 +24,8 @@ editor_state g = record {
     hint_at = hint_by g.H.Hinter.hint_at s.context.helper;
     verdict_at = verdict_by g.H.Validator.verdict_at s.context.helper;
     lights = lights_by g.H.Highlighter.lights s.context.helper;
-    own_completion = completion_by g.H.Completer.own_completion s.context.helper;
-    own_update = update_by g.H.Completer.own_update s.context.helper;
+    completion_at = completion_by g.H.Completer.completion_at s.context.helper;
+    updated = update_by g.H.Completer.updated s.context.helper;
     lines = g.S.History.lines s.context.ctx.history;
   };
   display = λ s. record {
@@ -37,7 +37,7 @@ editor_state g = record {
     lit = s.view.drawn.highlight_char;
   };
   loan = λ s. (s.view.out.ghost_name, option_map (λ h. h.ghost_name) s.context.helper);
-  sure = λ s. sure_by g.H.Hinter.sure g.H.Validator.sure (g.S.History.sure s.context.ctx.history) s.context.helper;
+  sure = λ s. sure_by g.H.Hinter.sure g.H.Validator.sure g.H.Completer.sure (g.S.History.sure s.context.ctx.history) s.context.helper;
   failures = λ s. g.W.ScreenState.failures s.view.out.now;
   redraws = λ s. g.W.ScreenState.redraws s.view.out.now;
 }
