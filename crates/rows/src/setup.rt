@@ -11,7 +11,8 @@ use line_parts::{CmdKind, History};
 use line_script::{KILL_RING_SIZE, Parsed};
 use std::alloc::Global;
 use tests_parties::advisor::{Tip, Verdict};
-use tests_steps::source::Source;
+use tests_parties::source::Source;
+use tests_steps::source::command;
 use tests_steps::watcher::Watcher;
 
 /// Which call of one of those who are asked fails, from 1 on, or 0 for none, and whether it fails
@@ -245,7 +246,7 @@ fn target_named(alloc: Global, text: &str) -> Result<Option<Target>> {
             None => None,
         });
     }
-    Ok(match Source::new(text).command(alloc)? {
+    Ok(match command(&mut Source::new(text), alloc)? {
         Some(command) => Some(Target::Does(command)),
         None => None,
     })

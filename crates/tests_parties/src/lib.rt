@@ -8,3 +8,4 @@ pub mod fault;
 pub mod guide;
 pub mod pieces;
 pub mod shelf;
+pub mod source;

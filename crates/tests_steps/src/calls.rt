@@ -1,7 +1,7 @@
 //! Commands and calls of an edit state, made by their names.
 
 use crate::recorder::Recorder;
-use crate::source::{ANCHORS, Source};
+use crate::source::{ANCHORS, command};
 use crate::typist::Typist;
 use line_buffer::{KillRing, Movement};
 use line_config::{Config, Result};
@@ -15,6 +15,7 @@ use line_state::RefreshKind;
 use std::alloc::Global;
 use tests_parties::advisor::Advisor;
 use tests_parties::shelf::Shelf;
+use tests_parties::source::Source;
 
 /// An editor that asks the helper and the history of the bench.
 pub type Editor<'out, 'prompt> = State<'out, 'prompt, Recorder, Advisor, (String, String), Shelf>;
@@ -45,7 +46,7 @@ pub fn executed(
 ) -> Option<Result<&'static str>> {
     let mut last = Ok("proceeds");
     for text in text.split("; ") {
-        let command = Source::new(text).command(alloc);
+        let command = command(&mut Source::new(text), alloc);
         last = match command {
             Ok(Some(command)) => done(execute(command, state, input, kills, config)),
             Ok(None) => proceeds(call(alloc, state, input, kills, text)?),
